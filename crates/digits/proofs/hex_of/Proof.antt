@@ -1,0 +1,17 @@
+-- `hex_of` meets its contract: each way of its test is the choice of `hexOf`.
+use borrow.Author.Needs.{needs}
+use borrow.Author.Tests.{lt-ltb, le-ltb}
+use Rattle.digits.specs.Hex.{hexOf}
+use Rattle.digits.proofs.hex_of.Statement.{statement}
+use Rattle.digits.proofs.hex_of.Tie as tie
+
+returns : tie.Need-returns
+unfolding hexOf
+returns c = simp (lt-ltb _ _ (c .if1 .taken))
+
+returns-2 : tie.Need-returns-2
+unfolding hexOf
+returns-2 c = simp (le-ltb _ _ (c .if1 .left))
+
+pub hex-of-spec : {M : Type 1} → statement M
+hex-of-spec = tie.close (tie.spec (λ c. search needs) (λ c. search needs) returns returns-2)

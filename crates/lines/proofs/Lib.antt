@@ -1,0 +1,5 @@
+pub mod CutLaws
+pub mod Machine
+pub mod FirstNew
+pub mod Point3
+pub mod ReadOn

@@ -1,0 +1,5 @@
+pub mod Cut
+pub mod Edit
+pub mod New
+pub mod Reader
+pub mod Caught
