@@ -1,0 +1,4 @@
+pub mod Laws
+pub mod Open
+pub mod History
+pub mod SliceLines

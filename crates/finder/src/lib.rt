@@ -1,0 +1,72 @@
+// The line finder: where a line begins and ends in a stream of bytes.
+ghost use mathlib.Core.Path.{_≡_};
+ghost use Rattle.finder.specs.Finder.{fedOf};
+ghost use Rattle.finder.specs.Slice.{foundAt};
+
+// The finder after a byte: how many bytes it holds, and the length of the line that this byte
+// ends, 0 where it ends none. The caller holds the bytes themselves.
+pub struct Fed {
+    pub held: usize,
+    pub line: usize,
+}
+
+// One byte fed to a finder that holds `held` bytes; at the start it holds 0.
+pub fn feed(held: usize, b: u8) -> Fed
+    ensures { λ r. ⌜ r ≡ fedOf held b ⌝ }
+{
+    if b == b'$' {
+        return Fed { held: 1, line: 0 };
+    }
+    if held < 1 {
+        return Fed { held: 0, line: 0 };
+    }
+    if 81 < held {
+        return Fed { held: 0, line: 0 };
+    }
+    if b == b'\n' {
+        return Fed {
+            held: 0,
+            line: held + 1,
+        };
+    }
+    if held == 81 {
+        return Fed { held: 0, line: 0 };
+    }
+    Fed {
+        held: held + 1,
+        line: 0,
+    }
+}
+
+// The first line of a slice from a place on: where it starts and ends. Where there is none, `line`
+// is false, `end` is the end of the slice, and an unfinished line begins at `start`.
+pub struct Found {
+    pub line: bool,
+    pub start: usize,
+    pub end: usize,
+}
+
+// The first line that the finder gives out when it is fed the bytes of `s` from `at` on.
+pub fn next_line(s: &[u8], at: usize) -> Found
+    ensures { λ r. ⌜ r ≡ foundAt (now (s .entry)) at ⌝ }
+{
+    let mut held: usize = 0;
+    let mut i = at;
+    while i < s.len() {
+        let fed = feed(held, s[i]);
+        i += 1;
+        if 0 < fed.line {
+            return Found {
+                line: true,
+                start: i - fed.line,
+                end: i,
+            };
+        }
+        held = fed.held;
+    }
+    Found {
+        line: false,
+        start: i - held,
+        end: i,
+    }
+}
