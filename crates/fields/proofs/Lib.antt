@@ -1,0 +1,4 @@
+pub mod Splitting
+pub mod Placing
+pub mod Refusing
+pub mod Joining

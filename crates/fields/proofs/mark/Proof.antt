@@ -1,0 +1,13 @@
+-- `mark` meets its contract: past the end nothing is stored, and the definition stores nothing there.
+use mathlib.Core.Path.{sym}
+use borrow.Author.Needs.{needs}
+use denote.Ref.{now}
+use lib.Seq.{set-out}
+use Rattle.fields.proofs.mark.Statement.{statement}
+use Rattle.fields.proofs.mark.Tie as tie
+
+returns-2 : tie.Need-returns-2
+returns-2 c = sym (set-out (now (c .before .args .p)) (c .before .args .n) (c .before .args .i) (c .if1 .left))
+
+pub mark-spec : {M : Type 1} → statement M
+mark-spec = tie.close (tie.spec (λ c. search needs) (λ c. search needs) (λ c. search needs) (λ c. search needs) returns-2)
