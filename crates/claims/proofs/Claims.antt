@@ -1,0 +1,91 @@
+-- The claims of the library, each under a plain sentence. The argument of each stands in the file that its last line names; what a
+-- function is promised to give stands in its contract, in src/, and in the definition that the contract cites, in specs/.
+use Prim.Native.Nat.{ℕ, _+_, _-_, _≤_, _<_}
+use mathlib.Core.Path.{_≡_}
+use mathlib.Core.List.{List, [], _∷_, _++_}
+use mathlib.Core.Bool.{Bool, true, false}
+use lib.ListN.{length, getD, take, drop}
+use Rattle.digits.specs.Hex.{hexDigit}
+use Rattle.line.specs.Line.{lineRefusal, bodyOf, endOf, lineWith, asLine}
+use Rattle.line.proofs.Form as Form
+use Rattle.lines.specs.Cut.{cutLines, joined}
+use Rattle.lines.specs.Edit.{OneByte}
+use Rattle.lines.specs.Reader.{Step, stop, readLines}
+use Rattle.lines.specs.Caught.{NotRefused, Caught}
+use Rattle.lines.proofs.CutLaws as CutLaws
+use Rattle.lines.proofs.Machine as Machine
+use Rattle.lines.proofs.Point3 as Point3
+use Rattle.fields.specs.Fields.{fieldsOf, joinFields}
+use Rattle.fields.proofs.Joining as Joining
+use Rattle.finder.specs.Finder.{given, heldAfter, endsHere}
+use Rattle.finder.specs.Slice.{foundAt}
+use Rattle.finder.proofs.History as History
+use Rattle.finder.proofs.SliceLines as SliceLines
+use Rattle.finder.specs.Finder.{openLine, givenAll}
+use Rattle.claims.proofs.Rows.{rows, allHold, rows-hold}
+
+-- What the line rule accepts is `$`, a body of 1 to 76 allowed bytes, `*`, the two digits of its XOR, CR, LF ..
+pub line-accepted : (l : List ℕ) → lineRefusal l ≡ 0 → Form.Body (bodyOf l) × (l ≡ asLine (bodyOf l))
+line-accepted = Form.accepted
+
+-- .. and every such list is accepted.
+pub line-accepts : (body : List ℕ) → Form.Body body → lineRefusal (asLine body) ≡ 0
+line-accepts = Form.accepts
+
+-- Refusal 2 is given exactly where all of it holds but the digits.
+pub line-two : (l : List ℕ) → lineRefusal l ≡ 2 → Form.Formed l × Form.OtherDigits (bodyOf l) (getD (endOf l) 1 0) (getD (endOf l) 2 0)
+line-two = Form.refused-two
+
+pub line-is-two : (body : List ℕ) (d e : ℕ) → Form.Body body → hexDigit d ≡ true → hexDigit e ≡ true → Form.OtherDigits body d e
+    → lineRefusal (lineWith body d e) ≡ 2
+line-is-two = Form.refuses-two
+
+-- Two lines that both pass never differ by one byte changed, dropped or added; nor do two runs of lines that all pass.
+pub line-one-byte : {l m : List ℕ} → OneByte l m → lineRefusal l ≡ 0 → lineRefusal m ≡ 0 → ⊥
+line-one-byte = Machine.line-one-byte
+
+pub run-one-byte : {g h : List ℕ} → OneByte g h → Machine.Lines (cutLines g) → Machine.Lines (cutLines h) → ⊥
+run-one-byte = Machine.run-one-byte
+
+-- Any reader that takes the lines in order, and refuses a line that fails the line rule with that number, answers one byte of damage
+-- to what it accepts with 1 or 2 at the first line that is new or no longer as it was.
+pub damage-caught : {S A : Type 0} (refused : ℕ → ℕ → ℕ → A) (rule : S → ℕ → List ℕ → Step S) (finish : S → ℕ → A)
+    → ((q : S) (k : ℕ) (l : List ℕ) → (lineRefusal l ≡ 0 → ⊥) → rule q k l ≡ stop (lineRefusal l) 0)
+    → (q : S) {g h : List ℕ} → OneByte g h → NotRefused refused (readLines refused rule finish q g)
+    → Caught refused (cutLines g) (cutLines h) (readLines refused rule finish q h)
+damage-caught = Point3.point-three
+
+-- Bytes cut and joined again are the bytes.
+pub cut-joined : (s : List ℕ) → joined (cutLines s) ≡ s
+cut-joined = CutLaws.cut-joined
+
+-- Fields joined by commas are the fields again, and the fields of a body, joined, are the body.
+pub fields-join : (f : List ℕ) (fs : List (List ℕ)) → Joining.Free (f ∷ fs) → fieldsOf (joinFields f fs) ≡ f ∷ fs
+fields-join = Joining.fields-join
+
+pub join-fields : (s : List ℕ) → Joining.joinAll (fieldsOf s) ≡ s
+join-fields = Joining.join-fields
+
+-- Over every history the finder, fed byte by byte, says at each byte exactly what the rule of the line finder says, and the line given
+-- out is the last so many bytes: from the last `$` through the LF.
+pub finder-finds : (h : List ℕ) (b : ℕ) → endsHere (heldAfter 0 h) b ≡ length (given h b)
+finder-finds = History.finds
+
+pub finder-bytes : (h : List ℕ) (b : ℕ) → given h b ≡ drop (length h + 1 - length (given h b)) (h ++ b ∷ [])
+finder-bytes = History.given-last
+
+-- The finder over a slice finds the same lines, one after the other ..
+pub slice-line : (s : List ℕ) (at : ℕ) → openLine (take at s) ≡ [] → foundAt s at .line ≡ true → SliceLines.NextLine s at (foundAt s at)
+slice-line = SliceLines.slice-line
+
+pub slice-none : (s : List ℕ) (at : ℕ) → openLine (take at s) ≡ [] → foundAt s at .line ≡ false → givenAll (take at s) (drop at s) ≡ []
+slice-none = SliceLines.slice-none
+
+-- .. also where only the bytes from its `start` on are kept until more come.
+pub slice-rest : (s : List ℕ) (at : ℕ) → foundAt s at .line ≡ false → (t : List ℕ)
+    → givenAll [] (drop at s ++ t) ≡ givenAll [] (drop (foundAt s at .start) s ++ t)
+slice-rest = SliceLines.slice-rest
+
+-- The worked rows hold of the definitions.
+pub worked-rows : allHold rows ≡ true
+worked-rows = rows-hold

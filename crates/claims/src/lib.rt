@@ -1,0 +1,3 @@
+// What the library promises, in one place: proofs/Claims.antt is the file to open first.
+// There is no code here; proofs/Rows.antt has the worked rows, proofs/Determined.antt what each
+// public function's contract leaves open: nothing.

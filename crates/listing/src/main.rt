@@ -1,0 +1,150 @@
+// The listing of a log: standard input of any length, and a row for each line found in it.
+mod row;
+
+use libc::STDERR_FILENO;
+use libc::STDIN_FILENO;
+use libc::STDOUT_FILENO;
+
+// What listing some bytes leaves: where the bytes to keep begin, the rows so far, and whether all
+// of them could be written.
+struct Listed {
+    from: usize,
+    rows: u64,
+    written: bool,
+}
+
+// Writes what `out` holds up to `place`.
+fn flush(out: &[u8], place: usize) -> bool {
+    if place <= out.len() {
+        return io::write_all(STDOUT_FILENO, &out[0..place]);
+    }
+    false
+}
+
+// Whether the next row may not fit into `out` from `place` on.
+fn is_full(out: &[u8], place: usize) -> bool {
+    if out.len() <= place {
+        return true;
+    }
+    out.len() - place < 64
+}
+
+// Writes a row for each line of `s`, by way of `out`, which holds many rows.
+fn list_lines(s: &[u8], out: &mut [u8], rows: u64) -> Listed {
+    let mut number = rows;
+    let mut at: usize = 0;
+    let mut place: usize = 0;
+    let mut written = true;
+    loop {
+        let found = finder::next_line(s, at);
+        let start = found.start;
+        if !found.line {
+            written = written & flush(out, place);
+            return Listed {
+                from: start,
+                rows: number,
+                written,
+            };
+        }
+        let end = found.end;
+        number = row::next(number);
+        place = row::put_row(out, place, number, &s[start..end]);
+        if is_full(out, place) {
+            written = written & flush(out, place);
+            place = 0;
+        }
+        at = end;
+    }
+}
+
+// Moves the bytes of `buf` from `a` up to `e` to its start, and answers how many they are.
+fn keep(buf: &mut [u8], a: usize, e: usize) -> usize {
+    let mut i: usize = 0;
+    let mut from = a;
+    while from < e {
+        if buf.len() <= from {
+            return i;
+        }
+        buf[i] = buf[from];
+        i += 1;
+        from += 1;
+    }
+    i
+}
+
+// What one turn of reading leaves: whether to go on, the bytes kept at the start of the buffer, and
+// the rows so far.
+struct Turn {
+    more: bool,
+    kept: usize,
+    rows: u64,
+}
+
+fn stop() -> Turn {
+    Turn {
+        more: false,
+        kept: 0,
+        rows: 0,
+    }
+}
+
+// Reads once and lists the lines that are whole; the bytes of an unfinished line are kept.
+fn take_turn(buf: &mut [u8], out: &mut [u8], kept: usize, rows: u64) -> Turn {
+    if buf.len() <= kept {
+        return stop();
+    }
+    let got = libc::read(STDIN_FILENO, &mut buf[kept..]);
+    if got < 0 {
+        os::fail(b"listing: standard input cannot be read");
+        return stop();
+    }
+    let n = kept + io::count(got, &buf[kept..]);
+    if n == kept {
+        return stop();
+    }
+    let listed = list_lines(&buf[0..n], out, rows);
+    if !listed.written {
+        os::fail(b"listing: standard output cannot be written");
+        return stop();
+    }
+    let from = listed.from;
+    Turn {
+        more: true,
+        kept: keep(buf, from, n),
+        rows: listed.rows,
+    }
+}
+
+// A proved loop has to end, and nothing says that the input does: so the turns are counted down
+// from a number that no run uses up.
+fn list_all(buf: &mut [u8], out: &mut [u8]) {
+    let mut turns = u64::MAX;
+    let mut kept: usize = 0;
+    let mut rows: u64 = 0;
+    while 0 < turns {
+        let t = take_turn(buf, out, kept, rows);
+        if !t.more {
+            return;
+        }
+        kept = t.kept;
+        rows = t.rows;
+        turns -= 1;
+    }
+}
+
+fn main() {
+    if 1 < os::arg_count() {
+        io::write_all(
+            STDERR_FILENO,
+            b"listing: it reads a log from standard input and takes no argument, as in: listing < log\n",
+        );
+        return;
+    }
+    if !io::write_all(STDOUT_FILENO, b"no address answer\n") {
+        os::fail(b"listing: standard output cannot be written");
+        return;
+    }
+    let mut buf = io::large_buffer();
+    let mut out = io::large_buffer();
+    list_all(&mut buf, &mut out);
+}
