@@ -1,0 +1,16 @@
+"""Runs the repository's programs, proved and built, on bytes."""
+import pathlib
+import subprocess
+
+ROOT = pathlib.Path(__file__).resolve().parent.parent
+
+
+def command(name, *words):
+    return [str(ROOT / "tools" / "program"), name, *words]
+
+
+def run(name, data, *words):
+    """What a program writes to standard output and to standard error when it is given these bytes."""
+    done = subprocess.run(command(name, *words), input=data, capture_output=True, cwd=ROOT, timeout=300)
+    assert done.returncode == 0, (name, done.returncode, done.stderr[-500:])
+    return done.stdout, done.stderr
