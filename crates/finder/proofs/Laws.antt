@@ -71,11 +71,11 @@ ends-le n b = go (eqb b 10 && (leb 1 n && leb n 81))
 
 -- The slice finder at its next byte b, which ends a line or does not.
 module _ (n i b : ℕ) (s : List ℕ) where
-  from-line : 1 ≤ endsHere n b → foundFrom n i (b ∷ s) ≡ record { line = true; start = i + 1 - endsHere n b; end = i + 1 }
+  pub from-line : 1 ≤ endsHere n b → foundFrom n i (b ∷ s) ≡ record { line = true; start = i + 1 - endsHere n b; end = i + 1 }
   unfolding foundFrom
   from-line h = simp (le-leb 1 (endsHere n b) h)
 
-  from-more : endsHere n b < 1 → foundFrom n i (b ∷ s) ≡ foundFrom (heldNext n b) (i + 1) s
+  pub from-more : endsHere n b < 1 → foundFrom n i (b ∷ s) ≡ foundFrom (heldNext n b) (i + 1) s
   unfolding foundFrom
   from-more h = simp (lt-leb 1 (endsHere n b) h)
 
