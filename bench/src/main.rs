@@ -47,7 +47,17 @@ fn all_fed_rattle(log: &[u8]) -> u64 {
     sum
 }
 
-fn all_fed_plain(log: &[u8]) -> u64 {
+fn all_fed_by_call(log: &[u8]) -> u64 {
+    let (mut finder, mut sum) = (plain::Finder::new(), 0);
+    for &b in log {
+        if let Some(line) = finder.push_by_call(b) {
+            note(&mut sum, line);
+        }
+    }
+    sum
+}
+
+fn all_fed_inlined(log: &[u8]) -> u64 {
     let (mut finder, mut sum) = (plain::Finder::new(), 0);
     for &b in log {
         if let Some(line) = finder.push(b) {
@@ -63,6 +73,7 @@ fn agree(log: &[u8]) {
     for line in cut(log) {
         let r = rattle::line_refusal(line);
         assert_eq!(r, plain::line_refusal(line), "line rule at {:?}", line);
+        assert_eq!(r, plain::line_refusal_by_tests(line), "line rule by tests at {:?}", line);
         kinds[r as usize] += 1;
     }
     assert!(kinds.iter().all(|&n| n > 0), "the log has each answer of the line rule: {:?}", kinds);
@@ -126,9 +137,12 @@ fn main() {
     let lines = cut(&log);
     println!("| what | Rattle ns/line | Rust ns/line | Rattle MB/s | Rust MB/s | ratio |");
     println!("|---|---|---|---|---|---|");
-    row("line rule", log.len(), lines.len(), race(&|| all_refusals(&lines, rattle::line_refusal), &|| all_refusals(&lines, plain::line_refusal)));
-    row("finder over a slice", log.len(), lines.len(), race(&|| all_places(&log, rattle::next_line), &|| all_places(&log, plain::next_line)));
-    row("finder fed byte by byte", log.len(), lines.len(), race(&|| all_fed_rattle(&log), &|| all_fed_plain(&log)));
+    let show = |what, times| row(what, log.len(), lines.len(), times);
+    show("line rule", race(&|| all_refusals(&lines, rattle::line_refusal), &|| all_refusals(&lines, plain::line_refusal)));
+    show("line rule, Rust without a table", race(&|| all_refusals(&lines, rattle::line_refusal), &|| all_refusals(&lines, plain::line_refusal_by_tests)));
+    show("finder over a slice", race(&|| all_places(&log, rattle::next_line), &|| all_places(&log, plain::next_line)));
+    show("finder fed byte by byte, a call a byte", race(&|| all_fed_rattle(&log), &|| all_fed_by_call(&log)));
+    show("finder fed byte by byte, Rust inlined", race(&|| all_fed_rattle(&log), &|| all_fed_inlined(&log)));
 }
 
 #[test]

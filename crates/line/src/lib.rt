@@ -2,7 +2,6 @@
 ghost use mathlib.Core.Path.{_≡_};
 ghost use Prim.Native.Nat.{_<_};
 ghost use lib.ListN.{length, getD};
-ghost use lib.Dec.{eqb};
 ghost use Rattle.line.specs.Line.{bodyBytes, xorOf, endForm, endGives, lineRefusal};
 
 // Which bytes may stand in a body: 1 where a byte may, sixteen bytes to a row.
@@ -24,11 +23,11 @@ const BODY: [u8; 256] = *b"\
     0000000000000000\
     0000000000000000";
 
-// Whether `table` has a `1` for the byte `b`.
-fn marked(table: &[u8; 256], b: u8) -> bool
-    ensures { λ r. ⌜ (r ≡ eqb (getD (now (table .entry)) b 0) 49) × (b < 256) ⌝ }
+// What `table` has for the byte `b`.
+fn mark(table: &[u8; 256], b: u8) -> u8
+    ensures { λ r. ⌜ (r ≡ getD (now (table .entry)) b 0) × (b < 256) ⌝ }
 {
-    table[b as usize] == b'1'
+    table[b as usize]
 }
 
 // The XOR of some bytes, and whether they may all stand in a body.
@@ -41,16 +40,19 @@ fn body_sum(s: &[u8]) -> Sum
     ensures { λ r. ⌜ (r .good ≡ bodyBytes (now (s .entry))) × (r .xor ≡ xorOf (now (s .entry))) ⌝ }
 {
     let table = BODY;
-    let mut good = true;
+    let mut marks = b'1';
     let mut xor: u8 = 0;
     let mut i: usize = 0;
     while i < s.len() {
         let b = s[i];
-        good = good & marked(&table, b);
+        marks = marks & mark(&table, b);
         xor = xor ^ b;
         i += 1;
     }
-    Sum { good, xor }
+    Sum {
+        good: marks == b'1',
+        xor,
+    }
 }
 
 // Whether `t` is a line's end: `*`, two digits, CR, LF.
