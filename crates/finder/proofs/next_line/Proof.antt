@@ -1,6 +1,6 @@
 -- The loop keeps that the answer for the whole is the answer for the bytes left, with what is held so far; each byte is one step of it.
 use Prim.Native.Nat.{_+_, _-_, _≤_}
-use mathlib.Core.Path.{_≡_, _∙_, sym, refl}
+use mathlib.Core.Path.{_≡_, _∙_, sym}
 use borrow.Author.Needs.{needs}
 use native.Mathlib.Omega.{arith}
 use lib.ListN.{length, getD, drop}
