@@ -1,12 +1,10 @@
 -- The finder's step by cases of its byte and of the number held, and the slice finder one byte on.
-use Prim.Native.Nat.{ℕ, suc, _+_, _-_, _≤_, _<_}
-use mathlib.Core.Path.{_≡_, refl, sym, _∙_}
+use Prim.Native.Nat.{ℕ, _+_, _-_, _≤_, _<_}
+use mathlib.Core.Path.{_≡_, refl}
 use mathlib.Core.List.{List, [], _∷_}
 use mathlib.Core.Bool.{Bool, true, false, cond, _&&_}
 use native.Mathlib.Omega.{arith}
-use native.Mathlib.Numerals.{add-one}
-use lib.ListN.{length, getD, drop, drop-of-length-le}
-use lib.Seq.{drop-cons}
+use lib.ListN.{length, drop, drop-of-length-le}
 use lib.Dec.{leb, eqb}
 use borrow.Author.Tests.{ne-eqb, le-leb, lt-leb, leb-true, leb-false}
 use Rattle.finder.specs.declared.Fed.{Fed}
@@ -71,28 +69,13 @@ ends-le n b = go (eqb b 10 && (leb 1 n && leb n 81))
 
 -- The slice finder at its next byte b, which ends a line or does not.
 module _ (n i b : ℕ) (s : List ℕ) where
-  from-line : 1 ≤ endsHere n b → foundFrom n i (b ∷ s) ≡ record { line = true; start = i + 1 - endsHere n b; end = i + 1 }
+  pub from-line : 1 ≤ endsHere n b → foundFrom n i (b ∷ s) ≡ record { line = true; start = i + 1 - endsHere n b; end = i + 1 }
   unfolding foundFrom
   from-line h = simp (le-leb 1 (endsHere n b) h)
 
-  from-more : endsHere n b < 1 → foundFrom n i (b ∷ s) ≡ foundFrom (heldNext n b) (i + 1) s
+  pub from-more : endsHere n b < 1 → foundFrom n i (b ∷ s) ≡ foundFrom (heldNext n b) (i + 1) s
   unfolding foundFrom
   from-more h = simp (lt-leb 1 (endsHere n b) h)
-
--- The same at place i of s, where f is what the step says of the byte there.
-module _ (n i : ℕ) (s : List ℕ) (h : i < length s) (f : Fed) (e : f ≡ fedOf n (getD s i 0)) where
-  pub fed-within : n ≤ i → (f .held ≤ i + 1) × (f .line ≤ i + 1)
-  fed-within k = rw e (omega (arith, held-le n (getD s i 0)), omega (arith, ends-le n (getD s i 0)))
-
-  pub found-line : 0 < f .line → record { line = true; start = i + 1 - f .line; end = i + 1 } ≡ foundFrom n i (drop i s)
-  found-line l =
-      let k : 1 ≤ endsHere n (getD s i 0) = rw e at l in
-      rw (e, drop-cons s i 0 h) (sym (from-line n i (getD s i 0) (drop (suc i) s) k))
-
-  pub found-more : f .line ≤ 0 → foundFrom n i (drop i s) ≡ foundFrom (f .held) (i + 1) (drop (i + 1) s)
-  found-more l =
-      let k : endsHere n (getD s i 0) ≤ 0 = rw e at l in
-      rw (e, drop-cons s i 0 h) (from-more n i (getD s i 0) (drop (suc i) s) (omega arith) ∙ rw add-one)
 
 pub found-end : (n i : ℕ) (s : List ℕ) → length s ≤ i → record { line = false; start = i - n; end = i } ≡ foundFrom n i (drop i s)
 unfolding foundFrom

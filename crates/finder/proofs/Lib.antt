@@ -1,4 +1,5 @@
 pub mod Laws
+pub mod Until
 pub mod Open
 pub mod History
 pub mod SliceLines

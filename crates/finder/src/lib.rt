@@ -1,7 +1,7 @@
 // The line finder: where a line begins and ends in a stream of bytes.
 ghost use mathlib.Core.Path.{_≡_};
 ghost use Rattle.finder.specs.Finder.{fedOf};
-ghost use Rattle.finder.specs.Slice.{foundAt};
+ghost use Rattle.finder.specs.Slice.{foundAt, heldIn, endedIn, reachOf};
 
 // The finder after a byte: how many bytes it holds, and the length of the line that this byte
 // ends, 0 where it ends none. The caller holds the bytes themselves.
@@ -46,27 +46,63 @@ pub struct Found {
     pub end: usize,
 }
 
+// How many bytes of an unfinished line stand before `i`, where it can end only before `until`.
+fn held_in(until: usize, i: usize) -> usize
+    ensures { λ r. ⌜ r ≡ heldIn until i ⌝ }
+{
+    if until <= i {
+        return 0;
+    }
+    let left = until - i;
+    if 82 < left {
+        return 0;
+    }
+    82 - left
+}
+
+// The same where `b` ends the line, and else 0.
+fn ended_in(until: usize, i: usize, b: u8) -> usize
+    ensures { λ r. ⌜ r ≡ endedIn until i b ⌝ }
+{
+    if b != b'\n' {
+        return 0;
+    }
+    held_in(until, i)
+}
+
+// What a line can end before after the byte `b`: a new line before `fresh`.
+fn reach(until: usize, fresh: usize, b: u8) -> usize
+    ensures { λ r. ⌜ r ≡ reachOf until fresh b ⌝ }
+{
+    if b == b'$' { fresh } else { until }
+}
+
 // The first line that the finder gives out when it is fed the bytes of `s` from `at` on.
 pub fn next_line(s: &[u8], at: usize) -> Found
     ensures { λ r. ⌜ r ≡ foundAt (now (s .entry)) at ⌝ }
 {
-    let mut held: usize = 0;
+    let mut until: usize = 0;
     let mut i = at;
     while i < s.len() {
-        let fed = feed(held, s[i]);
-        i += 1;
-        if 0 < fed.line {
+        let b = s[i];
+        if b'$' < b {
+            i += 1;
+            continue;
+        }
+        let n = ended_in(until, i, b);
+        if 0 < n {
             return Found {
                 line: true,
-                start: i - fed.line,
-                end: i,
+                start: i - n,
+                end: i + 1,
             };
         }
-        held = fed.held;
+        until = reach(until, i + 82, b);
+        i += 1;
     }
     Found {
         line: false,
-        start: i - held,
+        start: i - held_in(until, i),
         end: i,
     }
 }

@@ -1,3 +1,4 @@
 pub mod Laws
 pub mod Form
 pub mod Xor
+pub mod Table

@@ -1,15 +1,33 @@
 // The line rule, for every slice of bytes, sound or damaged.
 ghost use mathlib.Core.Path.{_≡_};
-ghost use lib.ListN.{length};
-ghost use Rattle.line.specs.Line.{bodyByte, bodyBytes, xorOf, endForm, endGives, lineRefusal};
+ghost use Prim.Native.Nat.{_<_};
+ghost use lib.ListN.{length, getD};
+ghost use Rattle.line.specs.Line.{bodyBytes, xorOf, endForm, endGives, lineRefusal};
 
-fn body_byte(b: u8) -> bool
-    ensures { λ r. ⌜ r ≡ bodyByte b ⌝ }
+// Which bytes may stand in a body: 1 where a byte may, sixteen bytes to a row.
+const BODY: [u8; 256] = *b"\
+    0000000000000000\
+    0000000000000000\
+    1011011111011111\
+    1111111111111111\
+    1111111111111111\
+    1111111111110101\
+    1111111111111111\
+    1111111111111100\
+    0000000000000000\
+    0000000000000000\
+    0000000000000000\
+    0000000000000000\
+    0000000000000000\
+    0000000000000000\
+    0000000000000000\
+    0000000000000000";
+
+// What `table` has for the byte `b`.
+fn mark(table: &[u8; 256], b: u8) -> u8
+    ensures { λ r. ⌜ (r ≡ getD (now (table .entry)) b 0) × (b < 256) ⌝ }
 {
-    (32 <= b)
-        & ((b <= 126)
-            & ((b != b'$')
-                & ((b != b'*') & ((b != b'!') & ((b != b'\\') & ((b != b'^') & (b != b'~')))))))
+    table[b as usize]
 }
 
 // The XOR of some bytes, and whether they may all stand in a body.
@@ -21,16 +39,20 @@ struct Sum {
 fn body_sum(s: &[u8]) -> Sum
     ensures { λ r. ⌜ (r .good ≡ bodyBytes (now (s .entry))) × (r .xor ≡ xorOf (now (s .entry))) ⌝ }
 {
-    let mut good = true;
+    let table = BODY;
+    let mut marks = b'1';
     let mut xor: u8 = 0;
     let mut i: usize = 0;
     while i < s.len() {
         let b = s[i];
-        good = good & body_byte(b);
+        marks = marks & mark(&table, b);
         xor = xor ^ b;
         i += 1;
     }
-    Sum { good, xor }
+    Sum {
+        good: marks == b'1',
+        xor,
+    }
 }
 
 // Whether `t` is a line's end: `*`, two digits, CR, LF.

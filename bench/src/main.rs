@@ -1,0 +1,151 @@
+//! The proved functions against the same work written by hand in Rust, over one log.
+
+mod log;
+mod plain;
+mod rattle;
+
+use std::time::Instant;
+
+const RUNS: usize = 5;
+const LOG_BYTES: usize = 8 << 20;
+const SEED: u64 = 0x0bad_cab1e;
+
+/// Keeps the compiler from leaving out what nobody reads.
+fn used(x: u64) -> u64 {
+    unsafe { std::ptr::read_volatile(&x) }
+}
+
+/// The lines of a log, each cut after its LF, as a reader of a file has them.
+fn cut(log: &[u8]) -> Vec<&[u8]> {
+    log.split_inclusive(|&b| b == b'\n').collect()
+}
+
+fn all_refusals(lines: &[&[u8]], rule: impl Fn(&[u8]) -> u8) -> u64 {
+    lines.iter().fold(0, |sum, line| sum * 3 % 1_000_003 + u64::from(rule(line)))
+}
+
+fn all_places(log: &[u8], next: impl Fn(&[u8], usize) -> Option<(usize, usize)>) -> u64 {
+    let (mut at, mut sum) = (0, 0u64);
+    while let Some((start, end)) = next(log, at) {
+        sum = sum.wrapping_mul(31).wrapping_add((start ^ end << 20) as u64);
+        at = end;
+    }
+    sum
+}
+
+fn note(sum: &mut u64, line: &[u8]) {
+    *sum = sum.wrapping_mul(31).wrapping_add(line.len() as u64 + u64::from(line[line.len() / 2]));
+}
+
+fn all_fed_rattle(log: &[u8]) -> u64 {
+    let (mut finder, mut sum) = (rattle::Finder::new(), 0);
+    for &b in log {
+        if let Some(line) = finder.push(b) {
+            note(&mut sum, line);
+        }
+    }
+    sum
+}
+
+fn all_fed_by_call(log: &[u8]) -> u64 {
+    let (mut finder, mut sum) = (plain::Finder::new(), 0);
+    for &b in log {
+        if let Some(line) = finder.push_by_call(b) {
+            note(&mut sum, line);
+        }
+    }
+    sum
+}
+
+fn all_fed_inlined(log: &[u8]) -> u64 {
+    let (mut finder, mut sum) = (plain::Finder::new(), 0);
+    for &b in log {
+        if let Some(line) = finder.push(b) {
+            note(&mut sum, line);
+        }
+    }
+    sum
+}
+
+/// Both sides give the same answers on each line, place and byte of the log.
+fn agree(log: &[u8]) {
+    let mut kinds = [0; 3];
+    for line in cut(log) {
+        let r = rattle::line_refusal(line);
+        assert_eq!(r, plain::line_refusal(line), "line rule at {:?}", line);
+        assert_eq!(r, plain::line_refusal_by_tests(line), "line rule by tests at {:?}", line);
+        kinds[r as usize] += 1;
+    }
+    assert!(kinds.iter().all(|&n| n > 0), "the log has each answer of the line rule: {:?}", kinds);
+
+    let (mut at, mut given) = (0, Vec::new());
+    while let Some((start, end)) = plain::next_line(log, at) {
+        assert_eq!(rattle::next_line(log, at), Some((start, end)), "finder from {}", at);
+        given.push(&log[start..end]);
+        at = end;
+    }
+    let (found, start, end) = rattle::next_line_or_rest(log, at);
+    assert_eq!((found, end), (false, log.len()));
+    assert!(start >= at && start <= end && (start == end || log[start] == b'$'));
+
+    let (mut one, mut two, mut n) = (rattle::Finder::new(), plain::Finder::new(), 0);
+    for &b in log {
+        let line = one.push(b);
+        assert_eq!(line, two.push(b));
+        if let Some(line) = line {
+            assert_eq!(line, given[n], "line {} fed", n);
+            n += 1;
+        }
+    }
+    assert_eq!(n, given.len());
+    println!("same answers: {} bytes, {} lines given out; line rule: {} hold, {} fail, {} digits differ", log.len(), n, kinds[0], kinds[1], kinds[2]);
+}
+
+fn median(mut times: Vec<f64>) -> f64 {
+    times.sort_by(|a, b| a.partial_cmp(b).expect("no NaN"));
+    times[times.len() / 2]
+}
+
+/// Seconds for one go of each side: medians of runs that take turns.
+fn race(one: &dyn Fn() -> u64, two: &dyn Fn() -> u64) -> (f64, f64) {
+    let timed = |f: &dyn Fn() -> u64| {
+        let began = Instant::now();
+        used(f());
+        began.elapsed().as_secs_f64()
+    };
+    used(one());
+    used(two());
+    let (mut ones, mut twos) = (Vec::new(), Vec::new());
+    for _ in 0..RUNS {
+        ones.push(timed(one));
+        twos.push(timed(two));
+    }
+    (median(ones), median(twos))
+}
+
+fn row(what: &str, bytes: usize, lines: usize, (rattle, rust): (f64, f64)) {
+    let ns = |t: f64| t * 1e9 / lines as f64;
+    let mb = |t: f64| bytes as f64 / t / 1e6;
+    println!("| {} | {:.0} | {:.0} | {:.0} | {:.0} | {:.2} |", what, ns(rattle), ns(rust), mb(rattle), mb(rust), rust / rattle);
+}
+
+fn main() {
+    let small = log::log(SEED ^ 1, 1 << 18);
+    agree(&small);
+    let log = log::log(SEED, LOG_BYTES);
+    agree(&log);
+    let lines = cut(&log);
+    println!("| what | Rattle ns/line | Rust ns/line | Rattle MB/s | Rust MB/s | ratio |");
+    println!("|---|---|---|---|---|---|");
+    let show = |what, times| row(what, log.len(), lines.len(), times);
+    show("line rule", race(&|| all_refusals(&lines, rattle::line_refusal), &|| all_refusals(&lines, plain::line_refusal)));
+    show("line rule, Rust without a table", race(&|| all_refusals(&lines, rattle::line_refusal), &|| all_refusals(&lines, plain::line_refusal_by_tests)));
+    show("finder over a slice", race(&|| all_places(&log, rattle::next_line), &|| all_places(&log, plain::next_line)));
+    show("finder fed byte by byte, a call a byte", race(&|| all_fed_rattle(&log), &|| all_fed_by_call(&log)));
+    show("finder fed byte by byte, Rust inlined", race(&|| all_fed_rattle(&log), &|| all_fed_inlined(&log)));
+}
+
+#[test]
+fn both_sides_agree() {
+    agree(&log::log(7, 1 << 18));
+}

@@ -1,0 +1,62 @@
+//! The proved functions. Nothing checks these declarations against `crates/host/src/lib.rt`: a slice is
+//! passed as a pointer and a length, a `&mut usize` as a pointer.
+
+extern "C" {
+    fn castanwel_line_refusal(line: *const u8, line_len: usize) -> u8;
+    fn castanwel_next_line(s: *const u8, s_len: usize, at: usize, start: *mut usize, end: *mut usize) -> bool;
+    fn castanwel_feed(held: usize, b: u8, line: *mut usize) -> usize;
+}
+
+/// 0 where `line` is a line, 1 where the line rule fails, 2 where the digits differ.
+pub fn line_refusal(line: &[u8]) -> u8 {
+    unsafe { castanwel_line_refusal(line.as_ptr(), line.len()) }
+}
+
+/// Where the first line from `at` on lies, or `None`.
+pub fn next_line(s: &[u8], at: usize) -> Option<(usize, usize)> {
+    let (found, start, end) = next_line_or_rest(s, at);
+    if found {
+        Some((start, end))
+    } else {
+        None
+    }
+}
+
+/// All that the finder says: whether there is a line, and the two places.
+pub fn next_line_or_rest(s: &[u8], at: usize) -> (bool, usize, usize) {
+    let (mut start, mut end) = (0, 0);
+    let found = unsafe { castanwel_next_line(s.as_ptr(), s.len(), at, &mut start, &mut end) };
+    (found, start, end)
+}
+
+/// The finder after a byte: how many bytes it holds, and the length of the line that ends here, or 0.
+pub fn feed(held: usize, b: u8) -> (usize, usize) {
+    let mut line = 0;
+    let held = unsafe { castanwel_feed(held, b, &mut line) };
+    (held, line)
+}
+
+/// A caller of `feed` that keeps the bytes of the unfinished line.
+pub struct Finder {
+    kept: [u8; 82],
+    held: usize,
+}
+
+impl Finder {
+    pub fn new() -> Self {
+        Finder { kept: [0; 82], held: 0 }
+    }
+
+    pub fn push(&mut self, b: u8) -> Option<&[u8]> {
+        let (held, line) = feed(self.held, b);
+        self.held = held;
+        if line > 0 {
+            self.kept[line - 1] = b;
+            return Some(&self.kept[..line]);
+        }
+        if held > 0 {
+            self.kept[held - 1] = b;
+        }
+        None
+    }
+}

@@ -1,0 +1,45 @@
+// The library's functions as Rust or C calls them, on numbers and lent bytes.
+ghost use mathlib.Core.Path.{_≡_};
+ghost use Rattle.line.specs.Line.{lineRefusal};
+ghost use Rattle.finder.specs.Finder.{heldNext, endsHere};
+ghost use Rattle.finder.specs.Slice.{foundAt};
+
+// What the line rule says of `line`: 0 where it is a line, 1 where the rule fails, 2 where the two
+// digits differ from the XOR of the body.
+#[no_mangle]
+pub extern "C" fn castanwel_line_refusal(line: &[u8]) -> u8
+    ensures { λ r. ⌜ r ≡ lineRefusal (now (line .entry)) ⌝ }
+{
+    line::line_refusal(line)
+}
+
+// Whether `s` has a line from `at` on. The first one lies from `start` up to `end`. Where there is none,
+// `end` is the end of `s`, and an unfinished line begins at `start`.
+#[no_mangle]
+pub extern "C" fn castanwel_next_line(
+    s: &[u8],
+    at: usize,
+    start: &mut usize,
+    end: &mut usize,
+) -> bool
+    ensures { λ r. ⌜ r ≡ foundAt (now (s .entry)) at .line ⌝ }
+    ensures { λ _. ⌜ now (start .exit) ≡ foundAt (now (s .entry)) at .start ⌝ }
+    ensures { λ _. ⌜ now (end .exit) ≡ foundAt (now (s .entry)) at .end ⌝ }
+{
+    let found = finder::next_line(s, at);
+    *start = found.start;
+    *end = found.end;
+    found.line
+}
+
+// Feeds the byte `b` to a finder that holds `held` bytes, and returns how many it holds next. `line` is
+// set to the length of the line that `b` ends, or to 0 where it ends none.
+#[no_mangle]
+pub extern "C" fn castanwel_feed(held: usize, b: u8, line: &mut usize) -> usize
+    ensures { λ r. ⌜ r ≡ heldNext held b ⌝ }
+    ensures { λ _. ⌜ now (line .exit) ≡ endsHere held b ⌝ }
+{
+    let fed = finder::feed(held, b);
+    *line = fed.line;
+    fed.held
+}
