@@ -24,6 +24,22 @@ fn all_refusals(lines: &[&[u8]], rule: impl Fn(&[u8]) -> u8) -> u64 {
     lines.iter().fold(0, |sum, line| sum * 3 % 1_000_003 + u64::from(rule(line)))
 }
 
+/// What stands between the `$` and the `*` of a line, or would.
+fn body(line: &[u8]) -> &[u8] {
+    if line.len() < 7 {
+        return &[];
+    }
+    &line[1..line.len() - 5]
+}
+
+fn all_fields(lines: &[&[u8]], places: impl Fn(&[u8], &mut [usize]) -> usize) -> u64 {
+    let mut ends = [0; 20];
+    lines.iter().fold(0, |sum, line| {
+        let n = places(body(line), &mut ends);
+        sum * 31 % 1_000_003 + (n + ends[n.min(ends.len()) - 1]) as u64
+    })
+}
+
 fn all_places(log: &[u8], next: impl Fn(&[u8], usize) -> Option<(usize, usize)>) -> u64 {
     let (mut at, mut sum) = (0, 0u64);
     while let Some((start, end)) = next(log, at) {
@@ -75,6 +91,11 @@ fn agree(log: &[u8]) {
         assert_eq!(r, plain::line_refusal(line), "line rule at {:?}", line);
         assert_eq!(r, plain::line_refusal_by_tests(line), "line rule by tests at {:?}", line);
         kinds[r as usize] += 1;
+        for room in [0, 3, 20] {
+            let (mut one, mut two) = ([7; 20], [7; 20]);
+            assert_eq!(rattle::places(body(line), &mut one[..room]), plain::places(body(line), &mut two[..room]), "fields of {:?}", line);
+            assert_eq!(one, two, "ends of {:?}", line);
+        }
     }
     assert!(kinds.iter().all(|&n| n > 0), "the log has each answer of the line rule: {:?}", kinds);
 
@@ -140,6 +161,7 @@ fn main() {
     let show = |what, times| row(what, log.len(), lines.len(), times);
     show("line rule", race(&|| all_refusals(&lines, rattle::line_refusal), &|| all_refusals(&lines, plain::line_refusal)));
     show("line rule, Rust without a table", race(&|| all_refusals(&lines, rattle::line_refusal), &|| all_refusals(&lines, plain::line_refusal_by_tests)));
+    show("fields found in one pass", race(&|| all_fields(&lines, rattle::places), &|| all_fields(&lines, plain::places)));
     show("finder over a slice", race(&|| all_places(&log, rattle::next_line), &|| all_places(&log, plain::next_line)));
     show("finder fed byte by byte, a call a byte", race(&|| all_fed_rattle(&log), &|| all_fed_by_call(&log)));
     show("finder fed byte by byte, Rust inlined", race(&|| all_fed_rattle(&log), &|| all_fed_inlined(&log)));

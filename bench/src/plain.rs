@@ -128,3 +128,20 @@ impl Finder {
         self.push(b)
     }
 }
+
+/// How many fields a body has; where each ends is stored in `ends`, as far as there is room.
+pub fn places(body: &[u8], ends: &mut [usize]) -> usize {
+    let mut n = 0;
+    for (i, &b) in body.iter().enumerate() {
+        if b == b',' {
+            if let Some(end) = ends.get_mut(n) {
+                *end = i;
+            }
+            n += 1;
+        }
+    }
+    if let Some(end) = ends.get_mut(n) {
+        *end = body.len();
+    }
+    n + 1
+}

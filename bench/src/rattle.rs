@@ -4,12 +4,18 @@
 extern "C" {
     fn castanwel_line_refusal(line: *const u8, line_len: usize) -> u8;
     fn castanwel_next_line(s: *const u8, s_len: usize, at: usize, start: *mut usize, end: *mut usize) -> bool;
+    fn castanwel_places(body: *const u8, body_len: usize, ends: *mut usize, ends_len: usize) -> usize;
     fn castanwel_feed(held: usize, b: u8, line: *mut usize) -> usize;
 }
 
 /// 0 where `line` is a line, 1 where the line rule fails, 2 where the digits differ.
 pub fn line_refusal(line: &[u8]) -> u8 {
     unsafe { castanwel_line_refusal(line.as_ptr(), line.len()) }
+}
+
+/// How many fields a body has; where each ends is stored in `ends`, as far as there is room.
+pub fn places(body: &[u8], ends: &mut [usize]) -> usize {
+    unsafe { castanwel_places(body.as_ptr(), body.len(), ends.as_mut_ptr(), ends.len()) }
 }
 
 /// Where the first line from `at` on lies, or `None`.

@@ -1,8 +1,8 @@
 -- No known address has a comma in it: no row of the tables has one. So where the sixth byte is a comma, it is the first.
-use Prim.Native.Nat.{ℕ, zero, suc, _≤_}
+use Prim.Native.Nat.{ℕ, _≤_}
 use mathlib.Core.Path.{_≡_, refl, sym, _∙_, ap}
 use mathlib.Core.List.{List, [], _∷_, _++_}
-use mathlib.Core.Bool.{Bool, true, false, not, _&&_}
+use mathlib.Core.Bool.{Bool, true, false, not}
 use mathlib.Core.Option.{Option, none, some}
 use native.Mathlib.Omega.{arith}
 use lib.ListN.{length, getD, take, drop, take-append-drop, List·getD-eq-default}
@@ -12,7 +12,6 @@ use Rattle.digits.proofs.Bools.{and-left, and-right, and-both}
 use Rattle.address.specs.declared.Talker.{Talker}
 use Rattle.address.specs.declared.Kind.{Kind}
 use Rattle.address.specs.declared.Pir.{Pir}
-use Rattle.address.specs.declared.Address.{Address}
 use Rattle.address.specs.declared.Address.the-variants.{Unknown}
 use Rattle.address.specs.Address.{pick, talkers, kinds, pirs, talkerOf, kindOf, pirOf, standard, maker, talked, knownOf, commaFree, addressOf}
 use Rattle.address.proofs.Tables.{rows, found-passes}

@@ -1,9 +1,9 @@
 -- Tables of fixed bytes: the first row that is the same decides, and what is found has the bytes of some row.
 use Prim.Native.Nat.{ℕ}
-use mathlib.Core.Path.{_≡_, refl, sym, _∙_, ap}
+use mathlib.Core.Path.{_≡_, refl, _∙_, ap}
 use mathlib.Core.List.{List, [], _∷_}
 use mathlib.Core.Bool.{Bool, true, false, _&&_}
-use mathlib.Core.Option.{Option, none, some}
+use mathlib.Core.Option.{some}
 use native.Mathlib.Omega.{arith}
 use Rattle.digits.specs.Same.{same}
 use Rattle.digits.proofs.Bools.{and-left, and-right}

@@ -1,9 +1,9 @@
 -- The claims of the library, each under a plain sentence. The argument of each stands in the file that its last line names; what a
 -- function is promised to give stands in its contract, in src/, and in the definition that the contract cites, in specs/.
-use Prim.Native.Nat.{ℕ, _+_, _-_, _≤_, _<_}
+use Prim.Native.Nat.{ℕ, _+_, _-_}
 use mathlib.Core.Path.{_≡_}
 use mathlib.Core.List.{List, [], _∷_, _++_}
-use mathlib.Core.Bool.{Bool, true, false}
+use mathlib.Core.Bool.{true, false}
 use lib.ListN.{length, getD, take, drop}
 use Rattle.digits.specs.Hex.{hexDigit}
 use Rattle.line.specs.Line.{lineRefusal, bodyOf, endOf, lineWith, asLine}

@@ -1,8 +1,7 @@
 -- What a test that holds, or a choice, says of its parts.
 use Prim.Native.Nat.{ℕ}
 use mathlib.Core.Path.{_≡_, refl}
-use mathlib.Core.Bool.{Bool, true, false, cond, not, _&&_}
-use mathlib.Core.Logic.{_⊎_, inl, inr}
+use mathlib.Core.Bool.{Bool, true, false, cond, _&&_}
 use native.Mathlib.Omega.{arith}
 
 pub and-left : (a b : Bool) → (a && b) ≡ true → a ≡ true

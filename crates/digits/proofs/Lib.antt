@@ -1,3 +1,5 @@
 pub mod Bools
 pub mod Sameness
 pub mod HexLaws
+pub mod DecimalLaws
+pub mod Finding

@@ -1,6 +1,6 @@
 -- Texts as the bytes that stand for them in a line.
 use Prim.Native.Nat.{ℕ}
-use Prim.Native.Char.{Char, code}
+use Prim.Native.Char.{code}
 use Prim.Native.String.{String}
 use mathlib.Core.List.{List, [], _∷_}
 

@@ -1,3 +1,5 @@
 pub mod Ascii
 pub mod Hex
 pub mod Same
+pub mod Decimal
+pub mod Means

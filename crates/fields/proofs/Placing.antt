@@ -1,9 +1,9 @@
 -- The ends of the fields, stored one after another: each byte of the body is one step of the stores, and field k by the stored ends is
 -- the kth of the fields.
 use Prim.Native.Nat.{ℕ, zero, suc, _+_, _-_, _≤_, _<_}
-use mathlib.Core.Path.{_≡_, refl, sym, _∙_, ap}
+use mathlib.Core.Path.{_≡_, refl, _∙_, ap}
 use mathlib.Core.List.{List, [], _∷_}
-use mathlib.Core.Bool.{Bool, true, false, cond, _&&_}
+use mathlib.Core.Bool.{true, false}
 use native.Mathlib.Omega.{arith}
 use native.Mathlib.Numerals.{add-one, sub-one}
 use lib.ListN.{length, getD, take, drop, set, length-set, drop-of-length-le}
@@ -11,7 +11,7 @@ use lib.Seq.{drop-cons, sets, length-sets, getD-set-same, getD-set-other}
 use borrow.Author.Tests.{eq-eqb, ne-eqb, lt-ltb, le-ltb, le-leb, lt-leb}
 use Rattle.fields.specs.Fields.{fieldsOf, startOf}
 use Rattle.fields.specs.Places.{endsFrom, startIn, isIn, fieldIn, placeIn}
-use Rattle.fields.proofs.Splitting.{ends-count, FieldAt, field-at}
+use Rattle.fields.proofs.Splitting.{ends-count, field-at}
 
 -- one byte of the body, at place i, with n ends stored in p
 module _ (p : List ℕ) (n : ℕ) (s : List ℕ) (i : ℕ) where

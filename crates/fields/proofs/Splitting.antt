@@ -1,14 +1,13 @@
 -- The fields of a body and their places. One induction over the bytes gives, for each field, where it ends, which bytes it has and
 -- that it lies in the body; fields joined by commas are the fields again.
-use Prim.Native.Nat.{ℕ, zero, suc, _+_, _-_, _≤_, _<_}
-use mathlib.Core.Path.{_≡_, refl, sym, _∙_, ap, subst}
-use mathlib.Core.List.{List, [], _∷_, _++_}
-use mathlib.Core.Bool.{Bool, true, false, cond, not, _&&_}
+use Prim.Native.Nat.{ℕ, zero, suc, _+_, _≤_, _<_}
+use mathlib.Core.Path.{_≡_, refl, _∙_, ap}
+use mathlib.Core.List.{List, [], _∷_}
+use mathlib.Core.Bool.{Bool, true, false, cond}
 use native.Mathlib.Omega.{arith}
 use lib.ListN.{length, getD, take, drop}
 use lib.Dec.{eqb}
-use borrow.Author.Tests.{eqb-true}
-use Rattle.fields.specs.Fields.{onto, fieldsOf, joinFields, startOf}
+use Rattle.fields.specs.Fields.{onto, fieldsOf, startOf}
 use Rattle.fields.specs.Places.{endsFrom}
 
 -- There is always a first field.

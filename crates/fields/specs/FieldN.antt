@@ -2,7 +2,7 @@
 -- number, 1 to 3, or 4 where there is no field n.
 use Prim.Native.Nat.{ℕ, _+_}
 use mathlib.Core.List.{List, []}
-use mathlib.Core.Bool.{Bool, cond, _&&_}
+use mathlib.Core.Bool.{cond, _&&_}
 use lib.ListN.{length, getD}
 use lib.Dec.{ltb, leb, eqb}
 use Rattle.line.specs.Line.{lineRefusal, bodyOf}

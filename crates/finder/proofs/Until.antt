@@ -10,7 +10,8 @@ use lib.Seq.{drop-cons}
 use lib.Dec.{leb, eqb}
 use borrow.Author.Tests.{ne-eqb, le-leb, lt-leb, leb-true, leb-false}
 use Rattle.finder.specs.Finder.{heldNext, endsHere}
-use Rattle.finder.specs.Slice.{foundFrom, heldIn, endedIn, reachOf}
+use Rattle.finder.specs.Slice.{foundFrom}
+use Rattle.finder.specs.Until.{heldIn, endedIn, reachOf}
 use Rattle.finder.proofs.Laws.{held-le, from-line, from-more}
 
 pub held-low : (u i : ℕ) → u ≤ i → heldIn u i ≡ 0

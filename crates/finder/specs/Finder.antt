@@ -1,7 +1,7 @@
 -- The line finder, fed byte by byte: each `$` starts a new line and discards an unfinished one; LF ends it.
 use Prim.Native.Nat.{ℕ, _+_}
 use mathlib.Core.List.{List, [], _∷_, _++_}
-use mathlib.Core.Bool.{Bool, true, false, cond, _&&_, _||_}
+use mathlib.Core.Bool.{Bool, false, cond, _&&_, _||_}
 use lib.ListN.{length}
 use lib.Dec.{leb, eqb}
 use Rattle.finder.specs.declared.Fed.{Fed}

@@ -1,2 +1,3 @@
 pub mod Finder
 pub mod Slice
+pub mod Until

@@ -1,9 +1,9 @@
 -- The finder over a lent slice: the first line of the bytes from a place on.
 use Prim.Native.Nat.{ℕ, _+_, _-_}
 use mathlib.Core.List.{List, [], _∷_}
-use mathlib.Core.Bool.{Bool, true, false, cond}
+use mathlib.Core.Bool.{Bool, true, false}
 use lib.ListN.{drop}
-use lib.Dec.{leb, eqb}
+use lib.Dec.{leb}
 use Rattle.finder.specs.declared.Found.{Found}
 use Rattle.finder.specs.Finder.{heldNext, endsHere}
 
@@ -20,14 +20,3 @@ foundFrom n i (b ∷ s) =
 
 unfoldable pub foundAt : List ℕ → ℕ → Found
 foundAt s at = foundFrom 0 at (drop at s)
-
--- How many bytes are held at place i, where a line that has begun can end only before the place u: a `$` at place p gives u = p + 82.
-unfoldable pub heldIn : ℕ → ℕ → ℕ
-heldIn u i = cond (leb u i) 0 (82 - (u - i))
-
--- The line that the byte b at place i ends, by its length without that byte; and where a line can end before, after that byte.
-abbrev pub endedIn : ℕ → ℕ → ℕ → ℕ
-endedIn u i b = cond (eqb b 10) (heldIn u i) 0
-
-abbrev pub reachOf : ℕ → ℕ → ℕ → ℕ
-reachOf u v b = cond (eqb b 36) v u

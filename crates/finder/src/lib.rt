@@ -1,7 +1,8 @@
 // The line finder: where a line begins and ends in a stream of bytes.
 ghost use mathlib.Core.Path.{_≡_};
 ghost use Rattle.finder.specs.Finder.{fedOf};
-ghost use Rattle.finder.specs.Slice.{foundAt, heldIn, endedIn, reachOf};
+ghost use Rattle.finder.specs.Slice.{foundAt};
+ghost use Rattle.finder.specs.Until.{heldIn, endedIn, reachOf};
 
 // The finder after a byte: how many bytes it holds, and the length of the line that this byte
 // ends, 0 where it ends none. The caller holds the bytes themselves.

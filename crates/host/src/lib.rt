@@ -3,6 +3,7 @@ ghost use mathlib.Core.Path.{_≡_};
 ghost use Rattle.line.specs.Line.{lineRefusal};
 ghost use Rattle.finder.specs.Finder.{heldNext, endsHere};
 ghost use Rattle.finder.specs.Slice.{foundAt};
+ghost use Rattle.fields.specs.Places.{Placed};
 
 // What the line rule says of `line`: 0 where it is a line, 1 where the rule fails, 2 where the two
 // digits differ from the XOR of the body.
@@ -42,4 +43,13 @@ pub extern "C" fn castanwel_feed(held: usize, b: u8, line: &mut usize) -> usize
     let fed = finder::feed(held, b);
     *line = fed.line;
     fed.held
+}
+
+// How many fields the body of a line has, the address among them. The place where each ends is stored in
+// `ends`, one after another, as far as there is room.
+#[no_mangle]
+pub extern "C" fn castanwel_places(body: &[u8], ends: &mut [usize]) -> usize
+    ensures { λ r. ⌜ Placed (now (body .entry)) (now (ends .entry)) r (now (ends .exit)) ⌝ }
+{
+    fields::places(body, ends)
 }

@@ -1,11 +1,11 @@
 -- The line rule from both sides. What has the form of a line is taken apart into `$`, body and end, and put together again;
 -- the number is then decided by the two digits alone.
-use Prim.Native.Nat.{ℕ, zero, suc, _+_, _-_, _/_, _%_, _≤_, _<_, _^_}
+use Prim.Native.Nat.{ℕ, suc, _+_, _-_, _/_, _%_, _≤_, _<_, _^_}
 use mathlib.Core.Path.{_≡_, refl, sym, _∙_, ap, ap₂}
 use mathlib.Core.List.{List, [], _∷_, _++_}
 use mathlib.Core.Bool.{Bool, true, false, cond, _&&_}
 use native.Mathlib.Omega.{arith}
-use lib.ListN.{length, getD, take, drop, length-append, length-take, length-drop, take-append-drop}
+use lib.ListN.{length, getD, length-append, length-take, length-drop, take-append-drop}
 use lib.Seq.{take-at, drop-at}
 use lib.Dec.{leb, eqb}
 use mathlib.Core.Logic.{_⊎_, inl, inr}

@@ -11,13 +11,12 @@ use lib.ListN.{length, getD, length-append}
 use lib.Dec.{ltb, eqb}
 use borrow.Author.Tests.{eqb-true, eq-eqb, ltb-true, ltb-false}
 use Rattle.digits.specs.Same.{same}
-use Rattle.digits.proofs.Bools.{true-false}
 use Rattle.digits.proofs.Sameness.{same-true, same-refl, same-false}
 use Rattle.line.specs.Line.{lineRefusal}
 use Rattle.line.proofs.Form.{passes-long}
 use Rattle.lines.specs.Cut.{cutRest, cutLines, joined}
 use Rattle.lines.specs.Edit.{OneByte, changed, dropped, added}
-use Rattle.lines.specs.New.{alike, firstNew, lineOf, IsFirstNew}
+use Rattle.lines.specs.New.{alike, firstNew, IsFirstNew}
 use Rattle.lines.proofs.CutLaws.{firstOf, afterOf, first-after, cut-first, rest-joined}
 use Rattle.lines.proofs.Machine.{St, start, lf, dead, step, back, between, stepped, walk, start-dead, lives, unique, one-byte-walk, line-walk, Lines, lines-walk}
 

@@ -1,18 +1,17 @@
 -- Any reader that takes lines in order and refuses a line that fails the line rule with that number at field 0: what it accepts, with one byte
 -- changed, dropped or added, is refused with 1 or 2 at the first line that is new or no longer as it was.
-use Prim.Native.Nat.{ℕ, zero, suc, _+_, _-_, _≤_, _<_}
-use mathlib.Core.Path.{_≡_, refl, sym, _∙_, ap, subst}
-use mathlib.Core.List.{List, [], _∷_, _++_}
-use mathlib.Core.Bool.{Bool, true, false, cond}
-use mathlib.Core.Logic.{_⊎_, inl, inr, ⊎-elim}
+use Prim.Native.Nat.{ℕ, suc, _+_, _-_}
+use mathlib.Core.Path.{_≡_, refl, sym, _∙_, ap}
+use mathlib.Core.List.{List, [], _∷_}
+use mathlib.Core.Bool.{Bool, true, false}
+use mathlib.Core.Logic.{⊎-elim}
 use native.Mathlib.Omega.{arith}
-use lib.ListN.{length, getD}
+use lib.ListN.{getD}
 use lib.Dec.{eqb}
 use borrow.Author.Tests.{eqb-true, eqb-false}
 use Rattle.line.specs.Line.{lineRefusal}
 use Rattle.lines.specs.Cut.{cutLines}
 use Rattle.lines.specs.Edit.{OneByte}
-use Rattle.lines.specs.New.{firstNew, lineOf, IsFirstNew}
 use Rattle.lines.specs.Caught.{NotRefused, Caught}
 use Rattle.lines.specs.Reader.{Step, next, stop, onward, readFrom, readLines}
 use Rattle.line.proofs.Form.{line-answer}

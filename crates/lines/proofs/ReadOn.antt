@@ -1,13 +1,13 @@
 -- The reader of lines as a loop meets it: `at` a place of the bytes, e where the line there ends.
-use Prim.Native.Nat.{ℕ, zero, suc, _+_, _-_, _≤_, _<_}
-use mathlib.Core.Path.{_≡_, refl, sym, _∙_, ap}
-use mathlib.Core.List.{List, [], _∷_}
+use Prim.Native.Nat.{ℕ, _+_, _-_, _≤_, _<_}
+use mathlib.Core.Path.{_≡_, sym, _∙_, ap}
+use mathlib.Core.List.{List, []}
 use native.Mathlib.Omega.{arith}
 use lib.ListN.{length, take, drop, drop-of-length-le}
-use Rattle.lines.specs.Cut.{cutRest, cutLines}
+use Rattle.lines.specs.Cut.{cutRest}
 use Rattle.lines.specs.Reader.{Step, next, stop, onward, readFrom, readLines}
 use Rattle.lines.specs.Cut.{lineWidth}
-use Rattle.lines.proofs.CutLaws.{lineAt, cut-at, cut-end, cut-start, cut-none}
+use Rattle.lines.proofs.CutLaws.{lineAt, cut-at, cut-start, cut-none}
 
 module _ {S A : Type 0} (refused : ℕ → ℕ → ℕ → A) (rule : S → ℕ → List ℕ → Step S) (finish : S → ℕ → A) (s : List ℕ) where
   module _ (q : S) (a k e : ℕ) (h : a < length s) (p : e ≡ a + lineWidth (drop a s)) (t : Step S) (i : t ≡ rule q k (take (e - a) (drop a s))) where

@@ -4,7 +4,6 @@ use mathlib.Core.Path.{_≡_, sym, _∙_, ap}
 use mathlib.Core.List.{List}
 use borrow.Author.Needs.{needs}
 use lib.ListN.{drop}
-use Rattle.address.specs.declared.Talker.{Talker}
 use Rattle.address.specs.Address.{lookUp, kinds, standard}
 use Rattle.address.proofs.Tables.{hit, miss}
 use Rattle.address.proofs.kind_of.Statement.{statement}

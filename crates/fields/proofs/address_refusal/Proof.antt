@@ -1,13 +1,10 @@
 -- `address_refusal` meets its contract: a line that passes has a body, whose address decides.
 use mathlib.Core.Path.{_≡_, sym, _∙_, ap}
-use mathlib.Core.Bool.{cond}
 use native.Mathlib.Omega.{arith}
 use borrow.Author.Needs.{needs}
-use borrow.Author.Tests.{eq-eqb, ne-eqb}
 use lib.ListN.{length}
 use Prim.Native.Nat.{_≤_}
 use Rattle.line.proofs.Form.{passes-long}
-use Rattle.line.proofs.Laws.{body-part}
 use Rattle.fields.specs.FieldN.{unknownNo, addressRefusal}
 use Rattle.fields.proofs.Refusing.{line-refused, address-refused}
 use Rattle.fields.proofs.address_refusal.Statement.{statement}

@@ -7,7 +7,7 @@ use lib.ListN.{length, replicate}
 use Rattle.line.proofs.Form.{passes-long}
 use Rattle.line.proofs.Laws.{body-part}
 use Rattle.fields.specs.FieldN.{addressRefusal}
-use Rattle.fields.proofs.Refusing.{Comes, address-line, not-addressed, no-zeroth, past-last, placed}
+use Rattle.fields.proofs.Refusing.{address-line, not-addressed, no-zeroth, past-last, placed}
 use Rattle.fields.proofs.field.Statement.{statement}
 use Rattle.fields.proofs.field.Tie as tie
 

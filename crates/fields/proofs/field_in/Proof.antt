@@ -1,7 +1,6 @@
 -- `field_in` meets its contract: each way out is one of the definition's own, by the law of that name.
-use Prim.Native.Nat.{ℕ, _+_, _-_}
-use mathlib.Core.Path.{_≡_, refl, sym, _∙_, ap}
-use native.Mathlib.Omega.{arith}
+use Prim.Native.Nat.{ℕ, _+_}
+use mathlib.Core.Path.{_≡_, ap}
 use borrow.Author.Needs.{needs}
 use Rattle.fields.proofs.Placing.{no-place, past-body, first-part, not-past, later-part}
 use Rattle.fields.proofs.field_in.Statement.{statement}

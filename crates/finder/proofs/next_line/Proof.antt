@@ -4,7 +4,8 @@ use mathlib.Core.Path.{_≡_, _∙_, sym}
 use borrow.Author.Needs.{needs}
 use native.Mathlib.Omega.{arith}
 use lib.ListN.{length, getD, drop}
-use Rattle.finder.specs.Slice.{foundFrom, foundAt, heldIn}
+use Rattle.finder.specs.Slice.{foundFrom, foundAt}
+use Rattle.finder.specs.Until.{heldIn}
 use Rattle.finder.proofs.Laws.{found-end}
 use Rattle.finder.proofs.Until.{held-low, ended-le, reach-le, more, within, plain, plain-within, line-at}
 use Rattle.finder.proofs.next_line.Statement.{statement}

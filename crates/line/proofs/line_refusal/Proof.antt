@@ -5,7 +5,7 @@ use native.Mathlib.Omega.{arith}
 use borrow.Author.Needs.{needs}
 use borrow.Author.Tests.{not-true, not-false}
 use Rattle.digits.proofs.Bools.{yes, no}
-use Rattle.line.specs.Line.{lineRefusal, endForm, endOf, endGives, bodyOf, bodyBytes, xorOf}
+use Rattle.line.specs.Line.{lineRefusal, endForm, endOf, endGives}
 use Rattle.line.proofs.Laws.{line-short, line-long, line-other, line-no-end, line-bad, line-digits, rest-all, body-part}
 use Rattle.line.proofs.line_refusal.Statement.{statement}
 use Rattle.line.proofs.line_refusal.Tie as tie

@@ -1,6 +1,6 @@
 -- `keep` is safe and ends: the place written lies at or before the place read, and the buffer keeps its length.
 use Prim.Native.Nat.{_≤_, _-_}
-use mathlib.Core.Path.{_≡_, refl, _∙_}
+use mathlib.Core.Path.{_≡_, refl}
 use native.Mathlib.Omega.{arith}
 use lib.ListN.{length, length-set}
 use Rattle.listing.proofs.keep.Statement.{statement}

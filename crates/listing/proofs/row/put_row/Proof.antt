@@ -1,8 +1,6 @@
 -- `put_row` is safe: a line with a known address passes the line rule, and so has at least seven bytes.
-use Prim.Native.Nat.{_≤_}
 use mathlib.Core.Path.{sym, _∙_}
 use borrow.Author.Needs.{needs}
-use lib.ListN.{length}
 use Rattle.line.proofs.Form.{passes-long}
 use Rattle.fields.proofs.Refusing.{address-line}
 use Rattle.listing.proofs.row.put_row.Statement.{statement}
