@@ -1,0 +1,2 @@
+// The field forms: how the bytes of a field, or of a few fields, are read as a value.
+pub mod got;
