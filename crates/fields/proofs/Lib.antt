@@ -2,3 +2,4 @@ pub mod Splitting
 pub mod Placing
 pub mod Refusing
 pub mod Joining
+pub mod AllFields

@@ -32,3 +32,10 @@ fieldIn p k s = cond (isIn p k s) (take (getD p k 0 - startIn p k) (drop (startI
 
 unfoldable pub placeIn : List ℕ → ℕ → List ℕ → ℕ
 placeIn p k s = cond (isIn p k s) (startIn p k) 0
+
+-- The fields by their numbers: by the ends p, and as they stand.
+abbrev pub fieldsBy : List ℕ → List ℕ → ℕ → List ℕ
+fieldsBy p s k = fieldIn p k s
+
+abbrev pub theFields : List ℕ → ℕ → List ℕ
+theFields s k = getD (fieldsOf s) k []
