@@ -8,6 +8,7 @@ import lines
 import make_rows
 import make_text
 from generate import ROWS, generate
+from make_damage import mended
 from modes import answer, answers
 from receiver import Settings, mask_counts, step
 from refusal import Refusal
@@ -18,6 +19,25 @@ from wide import is_date
 
 # Kinds whose generated records can be too long, or be questions that hold too much.
 MAY_REFUSE = {"GGA": 1, "RMC": 1, "GSA": 1, "PIRPR": 5, "PIRTR": 5}
+
+# For each kind, fields that are all filled and fields that are empty where they may be.
+EXAMPLES = {
+    "GGA": ["000000.00,0000.0000,N,00000.0000,E,0,00,0,0,M,0,M,0,0000", ",,,,,0,,,,,,,,"],
+    "GLL": ["0000.0000,N,00000.0000,E,000000.00,A,A", ",,,,,A,A"],
+    "GSA": ["A,1,01,01,01,01,01,01,01,01,01,01,01,01,0,0,0", "A,1,,,,,,,,,,,,,,,"],
+    "GSV": ["1,1,00,01,00,000,00", "1,1,00,01,,,"],
+    "RMC": ["000000.00,A,0000.0000,N,00000.0000,E,0,0,010100,0,E,A", ",A,,,,,,,,,,A"],
+    "VTG": ["0,T,0,M,0,N,0,K,A", ",,,,,,,,A"],
+    "ZDA": ["000000.00,01,12,2000,00,30", ",,,,,"],
+    "PIRPR": ["0,4800,4,007F", ",,,"],
+    "PIRTR": ["0,0000", ","],
+    "PIRSR": ["0,0,", ",,"],
+    "PIRPA": ["0,4800,4,007F"],
+    "PIRTA": ["0,0000"],
+    "PIRSA": ["00000000,000000,"],
+}
+# Days with months that never have them, told apart only at the year.
+NO_DATES = [[str(day), "%02d" % month] for month in (2, 4, 6, 9, 11) for day in (30, 31) if month == 2 or day == 31]
 
 counts = {True: 0, False: 0}
 
@@ -199,6 +219,38 @@ def check_damage(rng):
         check("damage of a group of %d (%d tried)" % (count, tried), slipped, 0)
 
 
+def goes_on(kind, texts):
+    """Says whether these first fields can be gone on with to fields that are read, by full or by empty ones."""
+    for example in EXAMPLES[kind]:
+        whole = texts + example.split(",")[len(texts):]
+        if len(said(KINDS[kind.encode("ascii")].read, whole_bytes(whole))) != 3:
+            return True
+    return False
+
+
+def whole_bytes(texts):
+    """Gives the texts as bytes."""
+    return [text.encode("ascii") for text in texts]
+
+
+def check_first_wrong(rng):
+    """A 5 stands at the first field after which nothing good can follow; a date that does not exist is the exception."""
+    for kind in EXAMPLES:
+        misplaced = tried = 0
+        for _ in range(3000):
+            line = mended(rng, kind)
+            refusal = said(read_sentence, line)
+            if len(refusal) != 3 or refusal[0] != 5 or lines.kind_of(line[1:6]) != kind.encode("ascii"):
+                continue
+            texts = line[7:-5].decode("ascii").split(",")
+            at = refusal[2]
+            if kind == "GSV" and len(texts) != 7 or kind == "ZDA" and at == 4 and texts[1:3] in NO_DATES:
+                continue
+            tried += 1
+            misplaced += goes_on(kind, texts[:at]) or not goes_on(kind, texts[:at - 1])
+        check("%s first wrong field" % kind, (misplaced, tried > 100), (0, True))
+
+
 def check_generated():
     """Generated inputs are the same by seed; an accepted group is what the writer writes; rows are all answered."""
     for kind in ["log"] + list(ROWS):
@@ -228,6 +280,7 @@ def main():
     check_line_round_trips(rng)
     check_groups(rng)
     check_damage(rng)
+    check_first_wrong(rng)
     check_generated()
     print("%d passed, %d failed" % (counts[True], counts[False]))
     return 1 if counts[False] else 0
