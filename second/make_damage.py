@@ -81,7 +81,8 @@ def bare(rng):
     body = line[1:-5]
     return rng.choice([
         lines.make(b""), lines.make(b","), lines.make(b"A"), lines.make(body[:5]), lines.make(body[:6]), lines.make(body + b","),
-        line[:-4] + line[-4:-2].lower() + b"\r\n", line[:-2] + b"\n", line[:-2] + b"\n\r", line[:-2], line[:-1], line[:-5] + b"\r\n",
+        line[:-4] + line[-4:-2].lower() + b"\r\n", line[:-2] + b"\n", line[:-2] + b"\n\r", line[:-2], line[:-1],
+        line[:-5] + b"\r\n",
         b"!" + line[1:], line[1:], line + b"\n", b"$" + line, b"$\n", b"$\r\n", b"\n", b"$*00\r\n",
         lines.make(body[:5] + body[6:]), line[:-4] + line[-3:-2] + line[-4:-3] + b"\r\n"])
 

@@ -188,7 +188,7 @@ def group_parts(rng, count):
 
 def hurt_parts(rng, parts):
     """Breaks the group rule in one way, in place; the lines stay lines."""
-    way = rng.randrange(9)
+    way = rng.randrange(10)
     at = rng.randrange(len(parts))
     texts = parts[at][1]
     if way == 0:
@@ -207,6 +207,8 @@ def hurt_parts(rng, parts):
         texts += entry(rng)
     elif way == 7:
         del texts[max(3, len(texts) - 4):]
+    elif way == 8:
+        parts.append([parts[0][0], [parts[0][1][0], str(len(parts) + 1), parts[0][1][2]]])
     else:
         source = rng.choice(parts)[1]
         if len(source) > 3 and len(texts) > 3:
@@ -228,7 +230,8 @@ def group_row(rng):
     if 0.3 < way < 0.4 and joined:
         joined = one_byte(rng, joined)
     if 0.4 < way < 0.45 and joined:
-        joined = rng.choice([joined[:-1], joined[:-2], joined[:rng.randrange(len(joined))], joined + b"\n", joined + b"$", b"", joined * 2])
+        joined = rng.choice([joined[:-1], joined[:-2], joined[:rng.randrange(len(joined))], joined + b"\n",
+                             joined + b"$", b"", joined * 2])
     return joined.hex()
 
 

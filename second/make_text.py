@@ -19,8 +19,8 @@ EDGES = {
     "ew": "E W N S e EE 0 EW".split(),
     "quality": "0 8 9 00 A - 1".split(),
     "count": "00 99 0 100 1A -1 07".split(),
-    "number": "0 000000 999999 999999.999 1000000 0999999 0.001 1. .5 . 1.2345 -1 -0 +5 1.0 1.50 0.000 1e3 1..2 1.2.3 007.700 1,5 "
-              "0000000 - 100000.1".split(),
+    "number": "0 000000 999999 999999.999 1000000 0999999 0.001 1. .5 . 1.2345 -1 -0 +5 1.0 1.50 0.000 1e3 1..2 1.2.3 "
+              "007.700 1,5 0000000 - 100000.1".split(),
     "signed": "0 -0 -0.000 -0.001 -999999.999 999999.999 -1000000 -- - -.5 -5. --5 +5 -00.5 - -1.2345 -0000000 -1".split(),
     "course": "0 359.999 360 360.0 359.9999 000.0 -1 359 361 0359.9 00000.1 000360 999999.999".split(),
     "variation": "0 179.999 180 180.000 0.000 -1 179.9 181 -0 000179 999999.999".split(),
@@ -79,6 +79,8 @@ def valued(rng, text, letters):
         return [text, rng.choice(letters)]
     return ["", rng.choice(["", "", rng.choice(letters)])]
 
+
+# The functions below that are named after a block of fields give the sound texts of that block.
 
 def time(rng):
     text = "%02d%02d%02d.%02d" % (rng.randrange(24), rng.randrange(60), rng.randrange(60), rng.randrange(100))

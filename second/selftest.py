@@ -178,6 +178,11 @@ def check_groups(rng):
             data = write_group(talker, count, places, 630)
             check("group of %d" % count, read_group(data), (talker, places[:count]))
             check("room of %d" % count, said(write_group, talker, count, places, len(data) - 1), (8, 0, 0))
+    for count in (4, 8, 32, 36):
+        total = count // 4
+        data = write_group(b"GP", count, a_table(rng, count), 630)
+        past = lines.make(b"GPGSV,%d,%d,%02d" % (total, total + 1, count))
+        check("empty line past %d" % count, said(read_group, data + past), (6 if total < 9 else 5, total + 1, 2 * (total == 9)))
     places = a_table(rng, 36)
     check("table of 37", said(write_group, b"GP", 37, places, 630), (5, 0, 0))
     check("unused not blank", said(write_group, b"GP", 35, places, 630), (5, 0, 0))
