@@ -112,8 +112,21 @@ def sky_entries(rng, bad):
     return [count] + sum(places, [])
 
 
+def long_gsa(rng):
+    """Gives a GSA record whose line has about 82 bytes: all satellites, and numbers of six digits and two or three."""
+    numbers = [ord(rng.choice("MA")), rng.randint(1, 3)]
+    for _ in range(12):
+        numbers += [1, rng.randint(1, 99)]
+    for _ in range(3):
+        value = rng.randint(100000000, WHOLE)
+        numbers += [1, rng.choice([value, value // 10 * 10])]
+    return numbers
+
+
 def record(rng, kind, wrong):
     """Gives the numbers of a record, with so many of its columns wrong."""
+    if kind == "GSA" and not wrong and rng.random() < 0.3:
+        return long_gsa(rng)
     columns = COLUMNS[kind]
     bad = rng.sample(range(len(columns)), min(wrong, len(columns)))
     numbers = [number for at, what in enumerate(columns) for number in column(rng, what, at in bad)]
