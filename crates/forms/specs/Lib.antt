@@ -1,1 +1,5 @@
 pub mod Got
+pub mod Fixed
+pub mod Letters
+pub mod Sign
+pub mod Number
