@@ -1,6 +1,6 @@
 -- Digits of a fixed width: the range of what was read.
 use Prim.Native.Nat.{ℕ, _^_, _≤_, _<_}
-use mathlib.Core.Path.{_≡_, refl}
+use mathlib.Core.Path.{_≡_}
 use mathlib.Core.List.{List}
 use mathlib.Core.Option.{Option, none, some, Option·some-injective, bind}
 use lib.Dec.{leb}

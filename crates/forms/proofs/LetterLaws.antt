@@ -1,16 +1,14 @@
 -- Letters by cases of the field's length: none, one, more. Then the rule of letters from both sides.
 use Prim.Native.Nat.{ℕ, suc, _+_, _≤_, _<_}
-use mathlib.Core.Path.{_≡_, refl, sym, _∙_}
+use mathlib.Core.Path.{_≡_, refl}
 use mathlib.Core.List.{List, [], _∷_}
 use mathlib.Core.Bool.{Bool, true, false, cond, _||_}
 use mathlib.Core.Option.{none, some}
 use native.Mathlib.Omega.{arith}
-use lib.Dec.{eqb, leb}
+use lib.Dec.{eqb}
 use lib.ListN.{length, getD}
-use borrow.Author.Tests.{le-leb, lt-leb}
 use Rattle.digits.specs.Decimal.{findIn}
 use Rattle.digits.specs.Same.{same}
-use Rattle.digits.proofs.Sameness.{same-other}
 use Rattle.digits.proofs.Bools.{and-true}
 use Rattle.forms.specs.Letters.{isIn, letterOf}
 

@@ -4,3 +4,4 @@ pub mod SignLaws
 pub mod LetterLaws
 pub mod FixedLaws
 pub mod NumberLaws
+pub mod AngleLaws

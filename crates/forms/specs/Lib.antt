@@ -3,3 +3,4 @@ pub mod Fixed
 pub mod Letters
 pub mod Sign
 pub mod Number
+pub mod Angle

@@ -39,7 +39,7 @@ fn fraction(t: &[u8]) -> Num
 }
 
 // The number of a field, or bad.
-pub fn read(f: &[u8]) -> Num
+fn read(f: &[u8]) -> Num
     ensures { λ r. ⌜ num r ≡ numberOf (now (f .entry)) ⌝ }
 {
     let p = digits::find(f, b'.');
@@ -64,7 +64,7 @@ pub fn number(f: &[u8]) -> Got
 }
 
 // A number that is less than `limit`, or bad.
-pub fn less(f: &[u8], limit: u32) -> Num
+pub(crate) fn less(f: &[u8], limit: u32) -> Num
     ensures { λ r. ⌜ num r ≡ belowOf limit (now (f .entry)) ⌝ }
 {
     let Num::Is(v) = read(f) else {

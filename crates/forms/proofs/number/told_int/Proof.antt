@@ -1,6 +1,5 @@
 -- `told_int` meets its contract: each case of the number is a case of the definition.
 use borrow.Author.Needs.{needs}
-use Prim.Native.Nat.{_<_}
 use mathlib.Core.Path.{subst}
 use mir.Syntax.{w32}
 use mir.Facts.{toZ-ofZ}
