@@ -1,1 +1,6 @@
 pub mod Got
+pub mod Fixed
+pub mod Letters
+pub mod Sign
+pub mod Number
+pub mod Angle

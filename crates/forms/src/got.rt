@@ -19,6 +19,16 @@ pub struct GotInt {
     pub value: i32,
 }
 
+// Which of the four fields is wrong, counted from 1, or 0 for none; whether the position is there;
+// and both values in ten-thousandths of a minute, south and west negative, 0 where it is missing
+// or wrong.
+pub struct Position {
+    pub wrong: u8,
+    pub there: bool,
+    pub lat: i32,
+    pub lon: i32,
+}
+
 // A field that is never empty: the value read, or wrong.
 pub fn told(n: Num) -> Got
     ensures { λ r. ⌜ r ≡ gotOf (num n) ⌝ }

@@ -1,0 +1,26 @@
+-- `fraction` meets its contract: the digits times their place, which stay below a thousand.
+use borrow.Author.Needs.{needs}
+use denote.Ref.{now}
+use mathlib.Core.Path.{sym, ap, _∙_}
+use native.Mathlib.Omega.{arith}
+use Rattle.digits.specs.Means.{num}
+use Rattle.forms.specs.Number.{thousandths}
+use Rattle.forms.proofs.NumberLaws.{fraction-lt}
+use Rattle.forms.proofs.number.fraction.Statement.{statement}
+use Rattle.forms.proofs.number.fraction.Tie as tie
+
+returns : tie.Need-returns
+unfolding thousandths
+returns c = rw (sym (c .before .before .digits .ensures) ∙ ap num (c .enum-told .given .1))
+
+mul-t6 : tie.Need-mul-t6
+mul-t6 c = rw (c .scale .ensures .0) (omega (arith, fraction-lt (now (c .before .before .before .before .before .before .args .t)) (c .before .before .m .given .0 .0) (sym (c .before .before .before .before .digits .ensures) ∙ ap num (c .before .before .m .given .1))))
+
+returns-2 : tie.Need-returns-2
+unfolding thousandths
+returns-2 c = rw (c .scale .ensures .0, sym (c .before .before .before .before .digits .ensures) ∙ ap num (c .before .before .m .given .1))
+
+pub fraction-spec : {M : Type 1} → statement M
+fraction-spec =
+    tie.close
+    (tie.spec (λ c κs. search needs) (λ c. search needs) (λ c. search needs) returns (λ c κs. search needs) mul-t6 returns-2)

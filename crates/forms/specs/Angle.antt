@@ -1,0 +1,75 @@
+-- Positions: latitude and longitude with their letters; and the magnetic variation.
+use Prim.Native.Nat.{ℕ, _+_, _*_}
+use mathlib.Core.List.{List}
+use mathlib.Core.Bool.{Bool, true, false, cond, _&&_, _||_, not}
+use mathlib.Core.Option.{Option, none, some, bind}
+use lib.Dec.{eqb, ltb, leb}
+use lib.IntN.{pos}
+use lib.ListN.{length, take, drop, getD}
+use Rattle.digits.specs.Ascii.{ascii}
+use Rattle.digits.specs.Decimal.{digitsOf}
+use Rattle.digits.specs.Same.{same}
+use Rattle.forms.specs.Got.{pick, gotIntOf, missingInt}
+use Rattle.forms.specs.Sign.{signed}
+use Rattle.forms.specs.Number.{belowOf}
+use Rattle.forms.specs.declared.got.GotInt.{GotInt}
+use Rattle.forms.specs.declared.got.Position.{Position}
+
+-- Degrees and minutes joined, in ten-thousandths of a minute: minutes are below 60, and all is at most the limit.
+unfoldable pub joinedOf : ℕ → Option ℕ → Option ℕ → Option ℕ → Option ℕ
+unfolding bind
+joinedOf limit od om op =
+    bind od λ d. bind om λ m. bind op λ p.
+    cond (ltb m 60 && leb (d * 600000 + m * 10000 + p) limit) (some (d * 600000 + m * 10000 + p)) none
+
+-- w digits of degrees, two of minutes, a point and four more.
+unfoldable pub angleOf : ℕ → ℕ → List ℕ → Option ℕ
+angleOf w limit f =
+    cond (eqb (length f) (w + 7) && eqb (getD f (w + 2) 0) 46)
+    (joinedOf limit (digitsOf w w (take w f)) (digitsOf 2 2 (take 2 (drop w f))) (digitsOf 4 4 (drop (w + 3) f)))
+    none
+
+-- At most 90 degrees, and at most 180.
+unfoldable pub latitudeOf : List ℕ → Option ℕ
+latitudeOf f = angleOf 2 54000000 f
+
+unfoldable pub longitudeOf : List ℕ → Option ℕ
+longitudeOf f = angleOf 3 108000000 f
+
+-- The wrong one of two fields, of which the first is there or empty.
+abbrev pub wrongInt : ℕ → Bool → GotInt
+wrongInt n there = record { wrong = n; there = there; value = pos 0 }
+
+-- A value and one of its two letters, of which the second negates it.
+unfoldable pub letteredOf : List ℕ → List ℕ → List ℕ → Option ℕ → GotInt
+letteredOf plus minus u none = wrongInt 1 true
+letteredOf plus minus u (some v) =
+    pick (same u plus || same u minus) (gotIntOf (some (signed (same u minus) v))) (wrongInt 2 true)
+
+-- A value with its letter, or both empty.
+unfoldable pub sidedOf : List ℕ → List ℕ → List ℕ → List ℕ → Option ℕ → GotInt
+sidedOf plus minus f u o =
+    pick (eqb (length f) 0) (pick (eqb (length u) 0) missingInt (wrongInt 2 false)) (letteredOf plus minus u o)
+
+abbrev pub refusedAt : ℕ → Position
+refusedAt n = record { wrong = n; there = false; lat = pos 0; lon = pos 0 }
+
+-- Both or none; where one is there without the other, the third field is wrong.
+unfoldable pub bothOf : GotInt → GotInt → Position
+bothOf a o =
+    pick (eqb (a .wrong) 0)
+    (pick ((a .there && not (o .there)) || ((not (a .there) && o .there) || eqb (o .wrong) 1)) (refusedAt 3)
+    (pick (eqb (o .wrong) 0) (record { wrong = 0; there = a .there; lat = a .value; lon = o .value }) (refusedAt 4)))
+    (refusedAt (a .wrong))
+
+-- Latitude, N or S, longitude, E or W: all four or none.
+unfoldable pub positionForm : List ℕ → List ℕ → List ℕ → List ℕ → Position
+positionForm lat ns lon ew =
+    bothOf (sidedOf (ascii "N") (ascii "S") lat ns (latitudeOf lat)) (sidedOf (ascii "E") (ascii "W") lon ew (longitudeOf lon))
+
+-- A number below 180 with E or W; without the number, the letter may be empty too.
+unfoldable pub variationForm : List ℕ → List ℕ → GotInt
+variationForm f u =
+    pick (eqb (length f) 0)
+    (pick (eqb (length u) 0 || (same u (ascii "E") || same u (ascii "W"))) missingInt (wrongInt 2 false))
+    (letteredOf (ascii "E") (ascii "W") u (belowOf 180000 f))

@@ -1,0 +1,32 @@
+// Digits of a fixed width, in a range.
+use crate::got::Got;
+use crate::got::maybe;
+use crate::got::told;
+use crate::got::within;
+use digits::Num;
+ghost use mathlib.Core.Path.{_≡_};
+ghost use Rattle.digits.specs.Means.{num};
+ghost use Rattle.forms.specs.Got.{gotOf, maybeOf};
+ghost use Rattle.forms.specs.Fixed.{fixedOf};
+
+// `w` digits whose value is from `lo` to `hi`; any other field is bad.
+fn ranged(f: &[u8], w: usize, lo: u32, hi: u32) -> Num
+    ensures { λ r. ⌜ num r ≡ fixedOf w lo hi (now (f .entry)) ⌝ }
+{
+    within(digits::digits(f, w, w), lo, hi)
+}
+
+// `05` is 5 in two digits from 1 to 99. An empty field is missing; fewer or more digits, any other
+// byte and a value out of the range are wrong.
+pub fn fixed(f: &[u8], w: usize, lo: u32, hi: u32) -> Got
+    ensures { λ r. ⌜ r ≡ maybeOf (now (f .entry)) (fixedOf w lo hi (now (f .entry))) ⌝ }
+{
+    maybe(f, ranged(f, w, lo, hi))
+}
+
+// `8` is 8 in one digit from 0 to 8. The same, but an empty field is wrong.
+pub fn exact(f: &[u8], w: usize, lo: u32, hi: u32) -> Got
+    ensures { λ r. ⌜ r ≡ gotOf (fixedOf w lo hi (now (f .entry))) ⌝ }
+{
+    told(ranged(f, w, lo, hi))
+}
