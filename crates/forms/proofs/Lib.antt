@@ -5,3 +5,9 @@ pub mod LetterLaws
 pub mod FixedLaws
 pub mod NumberLaws
 pub mod AngleLaws
+pub mod DigitLaws
+pub mod RangeLaws
+pub mod MinusLaws
+pub mod CalendarLaws
+pub mod ZoneLaws
+pub mod MaskLaws

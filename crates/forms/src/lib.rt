@@ -5,3 +5,8 @@ pub mod got;
 pub mod letters;
 pub mod number;
 mod sign;
+pub mod date;
+pub mod mask;
+pub mod pair;
+pub mod time;
+pub mod zone;
