@@ -43,6 +43,7 @@ module _ (s : List ℕ) (n : ℕ) (room : length (fieldsOf s) ≤ n) where
     where
       z : getD ends k 0 ≡ 0
       z = stored-after (replicate n 0) 0 (endsFrom 0 s) k (omega (arith, ends-count 0 s)) ∙ zeros n k
+
       go : (t : Bool) → ltb k n ≡ t → [] ≡ fieldIn ends k s
       go true e =
           not-past ends k s (omega (arith, length-ends, ltb-true k n e)) (omega (arith, z)) (λ q. omega (arith, some s)) (omega (arith, z)) .1

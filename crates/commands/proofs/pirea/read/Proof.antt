@@ -1,0 +1,25 @@
+-- `read` meets its contract: the count decides, then each field's form.
+use mathlib.Core.Path.{_∙_}
+use borrow.Author.Needs.{needs}
+use borrow.Author.Tests.{eq-eqb, ne-eqb}
+use Rattle.records.specs.Answers.{counted}
+use Rattle.commands.specs.Pirea.{pireaOf}
+use Rattle.commands.proofs.pirea.read.Statement.{statement}
+use Rattle.commands.proofs.pirea.read.Tie as tie
+
+returns : tie.Need-returns
+unfolding pireaOf counted
+returns c = rw (ne-eqb _ _ (c .if1 .taken))
+
+returns-2 : tie.Need-returns-2
+unfolding pireaOf counted
+returns-2 c = c .pirea-from .ensures ∙ rw (eq-eqb _ _ (c .before .before .if1 .left), c .before .code-in .ensures)
+
+pub read-spec : {M : Type 1} → statement M
+read-spec =
+    tie.close
+    (tie.spec
+    returns
+    (λ c κs. search needs)
+    (λ c κs. search needs)
+    returns-2)

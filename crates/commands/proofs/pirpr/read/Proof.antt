@@ -1,0 +1,28 @@
+-- `read` meets its contract: the count decides, then each field's form.
+use mathlib.Core.Path.{_∙_}
+use borrow.Author.Needs.{needs}
+use borrow.Author.Tests.{eq-eqb, ne-eqb}
+use Rattle.records.specs.Answers.{counted}
+use Rattle.commands.specs.Pirpr.{pirprOf}
+use Rattle.commands.proofs.pirpr.read.Statement.{statement}
+use Rattle.commands.proofs.pirpr.read.Tie as tie
+
+returns : tie.Need-returns
+unfolding pirprOf counted
+returns c = rw (ne-eqb _ _ (c .if1 .taken))
+
+returns-2 : tie.Need-returns-2
+unfolding pirprOf counted
+returns-2 c = c .pirpr-from .ensures ∙ rw (eq-eqb _ _ (c .before .before .before .before .before .if1 .left), c .before .port-mask-in .ensures, c .before .before .fixed-in2 .ensures, c .before .before .before .rate-in .ensures, c .before .before .before .before .fixed-in .ensures)
+
+pub read-spec : {M : Type 1} → statement M
+read-spec =
+    tie.close
+    (tie.spec
+    returns
+    (λ c κs. search needs)
+    (λ c κs. search needs)
+    (λ c κs. search needs)
+    (λ c κs. search needs)
+    (λ c κs. search needs)
+    returns-2)

@@ -1,0 +1,27 @@
+-- `read` meets its contract: the count decides, then each field's form.
+use mathlib.Core.Path.{_∙_}
+use borrow.Author.Needs.{needs}
+use borrow.Author.Tests.{eq-eqb, ne-eqb}
+use Rattle.records.specs.Answers.{counted}
+use Rattle.commands.specs.Pirsr.{pirsrOf}
+use Rattle.commands.proofs.pirsr.read.Statement.{statement}
+use Rattle.commands.proofs.pirsr.read.Tie as tie
+
+returns : tie.Need-returns
+unfolding pirsrOf counted
+returns c = rw (ne-eqb _ _ (c .if1 .taken))
+
+returns-2 : tie.Need-returns-2
+unfolding pirsrOf counted
+returns-2 c = c .pirsr-from .ensures ∙ rw (eq-eqb _ _ (c .before .before .before .before .if1 .left), c .before .empty-in .ensures, c .before .before .satellites-in2 .ensures, c .before .before .before .satellites-in .ensures)
+
+pub read-spec : {M : Type 1} → statement M
+read-spec =
+    tie.close
+    (tie.spec
+    returns
+    (λ c κs. search needs)
+    (λ c κs. search needs)
+    (λ c κs. search needs)
+    (λ c κs. search needs)
+    returns-2)

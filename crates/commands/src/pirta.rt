@@ -1,0 +1,40 @@
+// PIRTA: datum and zone.
+use forms::got::Got;
+use forms::got::GotInt;
+use records::DatumTold;
+use records::Sentence;
+use records::keep;
+ghost use mathlib.Core.Path.{_≡_};
+ghost use Rattle.fields.specs.Places.{fieldsBy};
+ghost use Rattle.commands.specs.Pirta.{pirtaFrom, pirtaOf};
+
+// The record, or the first wrong field.
+fn pirta_from(datum: Got, zone: GotInt) -> Sentence
+    ensures { λ r. ⌜ r ≡ pirtaFrom datum zone ⌝ }
+{
+    let zone_wrong = keep::needed_int(true, zone);
+    let w2 = keep::near(1, zone_wrong, 0);
+    let w1 = keep::near(0, datum.wrong, w2);
+    if w1 != 0 {
+        return Sentence::Refused(5, w1);
+    }
+    Sentence::Ta(DatumTold {
+        datum: datum.value,
+        zone: zone.value,
+    })
+}
+
+// The record of the fields of a body `s`, `n` of them after the address, by their ends `p`. Refused: 4
+// where there are not so many as the kind has, 5 at the first wrong field.
+//
+//     $PIRTA,0,0300*4E
+pub fn read(n: usize, s: &[u8], p: &[usize]) -> Sentence
+    ensures { λ r. ⌜ r ≡ pirtaOf n (fieldsBy (now (p .entry)) (now (s .entry))) ⌝ }
+{
+    if n != 2 {
+        return Sentence::Refused(4, 0);
+    }
+    let datum = kinds::exact_in(s, p, 1, 1, 0, 4);
+    let zone = kinds::four_in(s, p, 2);
+    pirta_from(datum, zone)
+}

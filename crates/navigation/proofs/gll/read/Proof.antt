@@ -1,0 +1,30 @@
+-- `read` meets its contract: the count decides, then each field's form.
+use mathlib.Core.Path.{_∙_}
+use borrow.Author.Needs.{needs}
+use borrow.Author.Tests.{eq-eqb, ne-eqb}
+use Rattle.records.specs.Answers.{counted}
+use Rattle.navigation.specs.Gll.{gllOf}
+use Rattle.navigation.proofs.gll.read.Statement.{statement}
+use Rattle.navigation.proofs.gll.read.Tie as tie
+
+returns : tie.Need-returns
+unfolding gllOf counted
+returns c = rw (ne-eqb _ _ (c .if1 .taken))
+
+returns-2 : tie.Need-returns-2
+unfolding gllOf counted
+returns-2 c = c .gll-from .ensures ∙ rw (eq-eqb _ _ (c .before .before .before .before .before .before .before .if1 .left), c .before .letter-in2 .ensures, c .before .before .before .letter-in .ensures, c .before .before .before .before .before .time-in .ensures, c .before .before .before .before .before .before .position-in .ensures)
+
+pub read-spec : {M : Type 1} → statement M
+read-spec =
+    tie.close
+    (tie.spec
+    returns
+    (λ c κs. search needs)
+    (λ c κs. search needs)
+    (λ c. search needs)
+    (λ c κs. search needs)
+    (λ c. search needs)
+    (λ c κs. search needs)
+    (λ c κs. search needs)
+    returns-2)

@@ -1,0 +1,30 @@
+-- Blank records: all values missing and zero.
+use mathlib.Core.List.{List, [], _∷_}
+use mathlib.Core.Bool.{false}
+use Rattle.records.specs.declared.Entry.{Entry}
+use Rattle.records.specs.declared.Gsa.{Gsa}
+use Rattle.records.specs.declared.Gsv.{Gsv}
+use Rattle.records.specs.declared.Reading.{Reading}
+use Rattle.records.specs.declared.Sentence.{Sentence}
+use Rattle.records.specs.declared.values.Maybe.{Maybe}
+use Rattle.records.specs.declared.values.Number.{Number}
+use lib.ListN.{replicate}
+
+abbrev pub noMaybe : Maybe
+noMaybe = record { there = false; value = 0 }
+
+abbrev pub noNumber : Number
+noNumber = record { there = false; value = 0 }
+
+abbrev pub blankEntry : Entry
+blankEntry = record { number = 0; elevation = noMaybe; azimuth = noMaybe; signal = noMaybe }
+
+abbrev pub blankGsa : Gsa
+blankGsa = record { selection = 0; fix = 0; satellites = replicate 12 noMaybe; pdop = noNumber; hdop = noNumber; vdop = noNumber }
+
+abbrev pub blankGsv : Gsv
+blankGsv = record { lines = 0; line = 0; satellites = 0; count = 0; entries = replicate 4 blankEntry }
+
+-- A sentence that has no record beside it.
+abbrev pub aloneOf : Sentence → Reading
+aloneOf s = record { sentence = s; gsa = blankGsa; gsv = blankGsv }

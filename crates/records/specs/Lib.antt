@@ -1,0 +1,4 @@
+pub mod Keep
+pub mod Wrong
+pub mod Blank
+pub mod Answers
