@@ -1,7 +1,9 @@
 pub mod Parts
 pub mod Bounds
+pub mod DigitSides
 pub mod SignLaws
 pub mod LetterLaws
 pub mod FixedLaws
 pub mod NumberLaws
 pub mod AngleLaws
+pub mod NumberSides
