@@ -7,3 +7,5 @@ pub mod FixedLaws
 pub mod NumberLaws
 pub mod AngleLaws
 pub mod NumberSides
+pub mod AngleSides
+pub mod PositionSides

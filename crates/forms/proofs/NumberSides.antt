@@ -14,8 +14,10 @@ use lib.Seq.{take-at, take-all, drop-append-add}
 use borrow.Author.Tests.{lt-ltb, le-ltb, ltb-true, ltb-false, ne-eqb, eqb-true}
 use Rattle.digits.specs.Decimal.{digitsOf, printFixed, findIn}
 use Rattle.digits.proofs.DecimalLaws.{length-fixed}
-use Rattle.forms.specs.Number.{before, behind, thousandths, numberOf}
-use Rattle.forms.proofs.Bounds.{nothing, digits-count, digits-len}
+use lib.IntN.{ℤ}
+use Rattle.forms.specs.Sign.{signed}
+use Rattle.forms.specs.Number.{before, behind, thousandths, numberOf, belowOf, heightOf}
+use Rattle.forms.proofs.Bounds.{through, nothing, digits-count, digits-len}
 use Rattle.forms.proofs.DigitSides.{digits-are, digits-read}
 
 -- The numbers, and their values in thousandths.
@@ -48,7 +50,7 @@ pointed-reads : (k n j m : ℕ) → 1 ≤ k → k ≤ 6 → n < 10 ^ k → 1 ≤
     → numberOf (printFixed k n ++ (46 ∷ printFixed j m)) ≡ some (n * 1000 + m * 10 ^ (3 - j))
 unfolding numberOf before behind thousandths bind
 pointed-reads k n j m a b h c d i =
-    let l : length (printFixed k n ++ (46 ∷ printFixed j m)) ≡ k + suc j = length-append (printFixed k n) (46 ∷ printFixed j m) ∙ rw (length-fixed, length-fixed) in
+    let l : length (printFixed k n ++ (46 ∷ printFixed j m)) ≡ k + suc j = length-append (printFixed k n) (46 ∷ printFixed j m) ∙ rw (length-fixed k n, length-fixed j m) in
     let f : k < length (printFixed k n ++ (46 ∷ printFixed j m)) = rw l (omega arith) in
     let p : drop (k + 1) (printFixed k n ++ (46 ∷ printFixed j m)) ≡ printFixed j m = rw (ap (λ (x : ℕ). x + 1) (sym (length-fixed k n)), drop-append-add) in
     rw (
@@ -114,3 +116,72 @@ number-is f v e = go (digitsOf 1 6 (before f)) refl e
         → bind o (λ n. cond (ltb (findIn 46 f) (length f)) (Option·map (λ m. n * 1000 + m) (thousandths (behind f))) (some (n * 1000))) ≡ some v → Written f v
     go (some n) d q = by-point n (ltb (findIn 46 f) (length f)) d refl q
     go none d q = nothing v q
+
+-- The heights: a number, or a minus and a number.
+pub data WrittenHeight : List ℕ → ℤ → Type 0 where
+  plain : {f : List ℕ} {v : ℕ} → Written f v → WrittenHeight f (signed false v)
+  minus : {f : List ℕ} {v : ℕ} → Written f v → WrittenHeight (45 ∷ f) (signed true v)
+
+-- No number starts with a minus.
+past-minus : {f : List ℕ} {v : ℕ} → Written f v → 1 ≤ findIn 45 f
+unfolding findIn
+past-minus (whole {k} {n} a b h) =
+    let e : findIn 45 (printFixed k n) ≡ k = ap (findIn 45) (sym (append-nil (printFixed k n))) ∙ find-past 45 k n [] (lit< tt) ∙ zero-add k in
+    rw e a
+past-minus (pointed {k} {n} {j} {m} a b h c d i) = rw (find-past 45 k n (46 ∷ printFixed j m) (lit< tt)) (omega arith)
+
+without-minus : (f : List ℕ) → 1 ≤ findIn 45 f → heightOf f ≡ Option·map (signed false) (numberOf f)
+unfolding heightOf findIn
+without-minus [] h = let z : ⊥ = omega arith in absurd z
+without-minus (b ∷ f) h = go (eqb b 45) h
+  where
+    go : (t : Bool) → 1 ≤ cond t 0 (findIn 45 f + 1)
+        → cond t (Option·map (signed true) (numberOf f)) (Option·map (signed false) (numberOf (b ∷ f))) ≡ Option·map (signed false) (numberOf (b ∷ f))
+    go true k = let z : ⊥ = omega arith in absurd z
+    go false k = refl
+
+-- Each height reads as its value.
+pub height-reads : {f : List ℕ} {z : ℤ} → WrittenHeight f z → heightOf f ≡ some z
+unfolding heightOf
+height-reads (plain {f} w) = without-minus f (past-minus w) ∙ rw (number-reads w)
+height-reads (minus w) = rw (number-reads w)
+
+-- What reads is a height with that value.
+pub height-is : (f : List ℕ) (z : ℤ) → heightOf f ≡ some z → WrittenHeight f z
+unfolding heightOf
+height-is [] z e = nothing z e
+height-is (b ∷ f) z e = go (eqb b 45) refl e
+  where
+    plainly : (o : Option ℕ) → numberOf (b ∷ f) ≡ o → Option·map (signed false) o ≡ some z → WrittenHeight (b ∷ f) z
+    plainly none d q = nothing z q
+    plainly (some v) d q = subst (λ (x : ℤ). WrittenHeight (b ∷ f) x) (Option·some-injective (signed false v) z q) (plain (number-is (b ∷ f) v d))
+
+    negated : (o : Option ℕ) → b ≡ 45 → numberOf f ≡ o → Option·map (signed true) o ≡ some z → WrittenHeight (b ∷ f) z
+    negated none h d q = nothing z q
+    negated (some v) h d q =
+        rw h (subst (λ (x : ℤ). WrittenHeight (45 ∷ f) x) (Option·some-injective (signed true v) z q) (minus (number-is f v d)))
+
+    go : (t : Bool) → eqb b 45 ≡ t → cond t (Option·map (signed true) (numberOf f)) (Option·map (signed false) (numberOf (b ∷ f))) ≡ some z → WrittenHeight (b ∷ f) z
+    go true h q = negated (numberOf f) (eqb-true b 45 h) refl q
+    go false h q = plainly (numberOf (b ∷ f)) refl q
+
+-- A number below a limit is a number whose value is below it.
+pub below-is : (limit : ℕ) (f : List ℕ) (v : ℕ) → belowOf limit f ≡ some v → Written f v × (v < limit)
+unfolding belowOf bind
+below-is limit f v e = go (numberOf f) refl e
+  where
+    go : (o : Option ℕ) → numberOf f ≡ o → bind o (λ x. cond (ltb x limit) (some x) none) ≡ some v → Written f v × (v < limit)
+    go none d q = nothing v q
+    go (some x) d q =
+        let t = through (ltb x limit) (some x) v q in
+        let p : x ≡ v = Option·some-injective x v (t .1) in
+        (number-is f v (rw p at d), rw p at (ltb-true x limit (t .0)))
+
+pub below-reads : {f : List ℕ} {v : ℕ} (limit : ℕ) → Written f v → v < limit → belowOf limit f ≡ some v
+unfolding belowOf bind
+below-reads {f} {v} limit w h = rw (number-reads w, lt-ltb v limit h)
+
+-- A number is not empty.
+pub not-empty : {f : List ℕ} {v : ℕ} → Written f v → length f ≡ 0 → ⊥
+not-empty (whole {k} {n} a b h) e = omega (arith, length-fixed k n)
+not-empty (pointed {k} {n} {j} {m} a b h c d i) e = omega (arith, length-append (printFixed k n) (46 ∷ printFixed j m))
