@@ -22,12 +22,14 @@ same-one [] b e = let z : ⊥ = omega arith in absurd z
 same-one (x ∷ []) b e = and-true (eqb x b)
 same-one (x ∷ y ∷ u) b e = let z : ⊥ = omega arith in absurd z
 
+-- One byte reads where it is in the set.
 pub letter-one : (set f : List ℕ) → length f ≡ 1 → letterOf set f ≡ cond (isIn (getD f 0 0) set) (some (getD f 0 0)) none
 unfolding letterOf
 letter-one set [] e = let z : ⊥ = omega arith in absurd z
 letter-one set (b ∷ []) e = refl
 letter-one set (b ∷ c ∷ f) e = let z : ⊥ = omega arith in absurd z
 
+-- No other length reads.
 pub letter-other : (set f : List ℕ) → (length f ≡ 1 → ⊥) → letterOf set f ≡ none
 unfolding letterOf
 letter-other set [] n = refl
@@ -44,6 +46,7 @@ found b (c ∷ s) h = go (eqb c b) h (found b s)
     go true k f = refl
     go false k f = f (omega arith)
 
+-- And is not in it where the search goes through.
 pub not-found : (b : ℕ) (s : List ℕ) → length s ≤ findIn b s → isIn b s ≡ false
 unfolding findIn isIn
 not-found b [] h = refl
@@ -84,6 +87,7 @@ pub unit-letter : (there : Bool) (b : ℕ) → unitWrong (b ∷ []) there b ≡ 
 unfolding unitWrong
 unit-letter there b = rw (same-refl (b ∷ []))
 
+-- And so is an empty one without its value.
 pub unit-empty : (b : ℕ) → unitWrong [] false b ≡ 0
 unfolding unitWrong same
 unit-empty b = refl

@@ -177,6 +177,7 @@ below-is limit f v e = go (numberOf f) refl e
         let p : x ≡ v = Option·some-injective x v (t .1) in
         (number-is f v (rw p at d), rw p at (ltb-true x limit (t .0)))
 
+-- And each such number reads.
 pub below-reads : {f : List ℕ} {v : ℕ} (limit : ℕ) → Written f v → v < limit → belowOf limit f ≡ some v
 unfolding belowOf bind
 below-reads {f} {v} limit w h = rw (number-reads w, lt-ltb v limit h)

@@ -206,7 +206,7 @@ pub position-empty : positionForm [] [] [] [] ≡ record { wrong = 0; there = fa
 unfolding positionForm latitudeOf longitudeOf sidedOf bothOf
 position-empty = refl
 
--- A variation that is there is a number below 180 degrees and its letter.
+-- A number below 180 degrees and its letter.
 pub data Varied : List ℕ → List ℕ → ℤ → Type 0 where
   varied : {f u : List ℕ} {v : ℕ} {z : ℤ} → Written f v → v < 180000 → Lettered (ascii "E") (ascii "W") v u z → Varied f u z
 
@@ -214,6 +214,7 @@ module _ (f u : List ℕ) where
   abbrev Loose : Bool
   Loose = eqb (length u) 0 || (same u (ascii "E") || same u (ascii "W"))
 
+  -- A variation that is good and there is such a pair of fields.
   pub variation-is : variationForm f u .wrong ≡ 0 → variationForm f u .there ≡ true → Varied f u (variationForm f u .value)
   unfolding variationForm
   variation-is e h = go (eqb (length f) 0) Loose e h
