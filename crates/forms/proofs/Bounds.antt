@@ -38,7 +38,8 @@ from-lt (b ∷ s) k acc v h e =
     rw q at r
 
 module _ (lo hi : ℕ) (s : List ℕ) (v : ℕ) (e : digitsOf lo hi s ≡ some v) where
-  opened : ((leb lo (length s) && (leb (length s) hi && leb (length s) 9)) ≡ true) × (digitsFrom 0 s ≡ some v)
+  -- Digits that were read stand within the counts, and give the value.
+  pub opened : ((leb lo (length s) && (leb (length s) hi && leb (length s) 9)) ≡ true) × (digitsFrom 0 s ≡ some v)
   unfolding digitsOf
   opened = through _ _ _ e
 

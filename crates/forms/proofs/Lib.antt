@@ -1,5 +1,6 @@
 pub mod Parts
 pub mod Bounds
+pub mod DigitSides
 pub mod SignLaws
 pub mod LetterLaws
 pub mod FixedLaws
@@ -11,3 +12,6 @@ pub mod MinusLaws
 pub mod CalendarLaws
 pub mod ZoneLaws
 pub mod MaskLaws
+pub mod NumberSides
+pub mod AngleSides
+pub mod PositionSides

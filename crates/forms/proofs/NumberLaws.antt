@@ -28,6 +28,7 @@ fraction-lt t m e =
     let k = digits-count 1 3 t m e in
     scaled (length t) m (k .0) (k .1) (digits-len 1 3 t m e)
 
+-- So what stands behind a point is below a thousand.
 pub thousandths-lt : (t : List ℕ) (v : ℕ) → thousandths t ≡ some v → v < 1000
 unfolding thousandths
 thousandths-lt t v e = go (digitsOf 1 3 t) refl e
@@ -88,16 +89,18 @@ pub number-under : (f : List ℕ) (o : Option ℕ) → o ≡ numberOf f → Unde
 number-under f (some v) e = number-lt f v (sym e)
 number-under f none e = tt
 
+-- The same of a number below a limit.
 pub below-under : (limit : ℕ) (f : List ℕ) (o : Option ℕ) → o ≡ belowOf limit f → Under 1000000000 o
 below-under limit f (some v) e = below-lt limit f v (sym e) .0
 below-under limit f none e = tt
 
--- The number in a height's field.
+-- A height with a minus is the negative of the number behind it.
 pub height-minus : (f : List ℕ) → (length f ≡ 0 → ⊥) → getD f 0 0 ≡ 45 → heightOf f ≡ Option·map (signed true) (numberOf (drop 1 f))
 unfolding heightOf
 height-minus [] h e = absurd (h refl)
 height-minus (b ∷ f) h e = rw (eq-eqb b 45 e)
 
+-- A height without a minus is its number.
 pub height-plain : (f : List ℕ) → (length f ≡ 0 → ⊥) → (getD f 0 0 ≡ 45 → ⊥) → heightOf f ≡ Option·map (signed false) (numberOf f)
 unfolding heightOf
 height-plain [] h n = absurd (h refl)

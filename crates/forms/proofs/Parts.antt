@@ -22,6 +22,7 @@ front s k = rw sub-zero
 pub middle : (s : List ℕ) (k w : ℕ) → take (k + w - k) (drop k s) ≡ take w (drop k s)
 middle s k w = rw add-sub-cancel-left
 
+-- A search ends within the list.
 pub find-le : (b : ℕ) (s : List ℕ) → findIn b s ≤ length s
 unfolding findIn
 find-le b [] = omega arith

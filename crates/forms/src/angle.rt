@@ -105,6 +105,7 @@ fn sided(f: &[u8], u: &[u8], n: Num, plus: u8, minus: u8) -> GotInt
     }
 }
 
+// A position that is refused at one of its four fields, or missing.
 fn refused(wrong: u8) -> Position
     ensures { λ r. ⌜ r ≡ refusedAt wrong ⌝ }
 {

@@ -19,12 +19,14 @@ pub(crate) fn only(u: &[u8], b: u8) -> bool
     u[0] == b
 }
 
+// A byte as a value.
 fn wide(b: u8) -> u32
     ensures { λ r. ⌜ r ≡ b ⌝ }
 {
     b as u32
 }
 
+// A field that is one letter of the set, or bad.
 fn one_of(f: &[u8], set: &[u8]) -> Num
     ensures { λ r. ⌜ num r ≡ letterOf (now (set .entry)) (now (f .entry)) ⌝ }
 {

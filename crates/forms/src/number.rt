@@ -6,7 +6,7 @@ use crate::sign::held;
 use digits::Num;
 ghost use mathlib.Core.Path.{_≡_};
 ghost use mathlib.Core.Option.{Option·map};
-ghost use Prim.Native.Nat.{_^_, _-_, _≤_};
+ghost use Prim.Native.Nat.{_^_, _-_};
 ghost use Rattle.digits.specs.Means.{num};
 ghost use Rattle.forms.specs.Got.{gotIntOf, maybeOf, maybeIntOf};
 ghost use Rattle.forms.specs.Sign.{signed, Under};
@@ -14,7 +14,7 @@ ghost use Rattle.forms.specs.Number.{thousandths, numberOf, belowOf, hei
 
 // What one counts in thousandths, at the last of `k` places behind the point.
 fn scale(k: usize) -> u32
-    ensures { λ r. ⌜ (r ≡ 10 ^ (3 - k)) × (r ≤ 1000) ⌝ }
+    ensures { λ r. ⌜ r ≡ 10 ^ (3 - k) ⌝ }
 {
     if k == 0 {
         return 1000;
@@ -28,7 +28,7 @@ fn scale(k: usize) -> u32
     1
 }
 
-// What stands behind the point.
+// One to three digits behind a point, in thousandths, or bad.
 fn fraction(t: &[u8]) -> Num
     ensures { λ r. ⌜ num r ≡ thousandths (now (t .entry)) ⌝ }
 {
@@ -83,6 +83,7 @@ pub fn below(f: &[u8], limit: u32) -> Got
     maybe(f, less(f, limit))
 }
 
+// A number that is there, negated where `minus` is true, or wrong.
 fn told_int(n: Num, minus: bool) -> GotInt
     requires { ⌜ Under 1000000000 (num n) ⌝ }
     ensures { λ r. ⌜ r ≡ gotIntOf (Option·map (signed minus) (num n)) ⌝ }
