@@ -1,48 +1,51 @@
--- The list of the months' lengths is the calendar's of a common year, entry by entry, and a year differs from it in February alone.
-use Prim.Native.Nat.{ℕ, zero, suc, _+_, _-_, _≤_, _<_}
-use mathlib.Core.Path.{_≡_, refl, ap, _∙_}
-use mathlib.Core.List.{List, [], _∷_}
-use mathlib.Core.Bool.{Bool, true, false, cond, _&&_}
+-- A date from both sides: each way of the definition but one refuses, and that one is a date of the calendar.
+use Prim.Native.Nat.{ℕ, _+_, _%_, _≤_, _<_}
+use mathlib.Core.Path.{_≡_, refl, sym, ap, _∙_}
+use mathlib.Core.List.{List, _++_, append-nil}
+use mathlib.Core.Bool.{Bool, true, false, cond}
+use mathlib.Core.Option.{Option, none, some, Option·map}
 use native.Mathlib.Omega.{arith}
-use lib.Dec.{eqb}
-use lib.ListN.{getD}
-use borrow.Author.Tests.{le-leb}
-use Rattle.digits.proofs.Bools.{and-left, and-right}
-use Rattle.forms.specs.Calendar.{leapYear, daysIn}
+use lib.Dec.{leb, ltb, eqb, lit≤}
+use lib.ListN.{length, drop, drop-of-length-le}
+use borrow.Author.Tests.{lt-ltb, le-ltb, leb-true, eqb-true, eqb-false, ltb-true, ltb-false}
+use Rattle.digits.specs.Decimal.{digitsOf, printFixed}
+use Rattle.digits.proofs.Bools.{and-left, and-right, true-false}
+use Rattle.digits.proofs.DecimalLaws.{fixed-rt}
+use Rattle.forms.specs.declared.date.GotDate.{GotDate}
+use Rattle.forms.specs.Got.{pick, withinOf}
+use Rattle.forms.specs.Pairs.{pairAt}
+use Rattle.forms.specs.Calendar.{daysIn, isDate}
+use Rattle.forms.specs.Dates.{noDate, theDate, dateAt, fullYear, dateSix, dateThree}
+use Rattle.forms.proofs.DigitLaws.{never, pair-lt}
+use Rattle.forms.proofs.DigitText.{pair-cut, fixed-text}
+use Rattle.forms.proofs.RangeLaws.{within-yes, within-is}
 
--- f k, f (k + 1), and so on: n of them
-abbrev filled : (ℕ → ℕ) → ℕ → ℕ → List ℕ
-filled f k zero = []
-filled f k (suc n) = f k ∷ filled f (suc k) n
+-- A date that is there exists in the calendar, from 1980 to 2079.
+abbrev pub Sound : GotDate → Type 0
+Sound r = r .there ≡ true → isDate (r .day) (r .month) (r .year) ≡ true
 
-filled-at : (f : ℕ → ℕ) (k n b : ℕ) → b < n → getD (filled f k n) b 0 ≡ f (k + b)
-filled-at f k zero b h = let z : ⊥ = omega arith in absurd z
-filled-at f k (suc n) zero h = ap f (omega arith)
-filled-at f k (suc n) (suc b) h = filled-at f (suc k) n b (omega arith) ∙ ap f (omega arith)
+no-sound : (n : ℕ) → Sound (noDate n)
+no-sound n e = absurd (true-false e refl)
 
--- The lengths of the months of year 1, which is a common one.
-abbrev pub lengths : List ℕ
-lengths = 31 ∷ 28 ∷ 31 ∷ 30 ∷ 31 ∷ 30 ∷ 31 ∷ 31 ∷ 30 ∷ 31 ∷ 30 ∷ 31 ∷ []
+pick-sound : (t : Bool) (x y : GotDate) → (t ≡ true → Sound x) → Sound y → Sound (pick t x y)
+pick-sound true x y p q = p refl
+pick-sound false x y p q = q
 
-lengths-are : lengths ≡ filled (λ k. daysIn k 1) 1 12
-unfolding daysIn leapYear
-lengths-are = refl
+at-sound : (a b c : ℕ) (d m y : Option ℕ) → Sound (dateAt a b c d m y)
+unfolding dateAt
+at-sound a b c none m y = no-sound a
+at-sound a b c (some d) none y = no-sound b
+at-sound a b c (some d) (some m) none = no-sound c
+at-sound a b c (some d) (some m) (some y) = pick-sound (isDate d m y) (theDate d m y) (noDate c) (λ p e. p) (no-sound c)
 
-february : (t l : Bool) (x : ℕ) → (t && l) ≡ false → cond t 28 x ≡ cond t (cond l 29 28) x
-february true true x e = let z : _≡_ {A = ℕ} 0 1 = cc in let w : ⊥ = omega arith in absurd w
-february true false x e = refl
-february false l x e = refl
+-- What RMC's field gives.
+pub six-sound : (f : List ℕ) → Sound (dateSix f)
+unfolding dateSix
+six-sound f =
+    pick-sound (eqb (length f) 0) _ _ (λ e. no-sound 0)
+    (pick-sound (eqb (length f) 6) _ _ (λ e. at-sound 1 1 1 _ _ _) (no-sound 1))
 
--- Of a month that is no February of a leap year, the list has the days; such a February has 29.
-module _ (m y : ℕ) (h : 1 ≤ m) (k : m ≤ 12) where
-  pub days-common : (eqb m 2 && leapYear y) ≡ false → getD lengths (m - 1) 0 ≡ daysIn m y
-  unfolding daysIn leapYear
-  days-common e =
-      let s : 1 + (m - 1) ≡ m = omega arith in
-      rw lengths-are (filled-at (λ k. daysIn k 1) 1 12 (m - 1) (omega arith)
-      ∙ ap (λ n. daysIn n 1) s
-      ∙ rw (le-leb 1 m h, le-leb m 12 k) (february (eqb m 2) _ _ e))
-
-  pub days-leap : (eqb m 2 && leapYear y) ≡ true → daysIn m y ≡ 29
-  unfolding daysIn
-  days-leap e = rw (le-leb 1 m h, le-leb m 12 k, and-left (eqb m 2) (leapYear y) e, and-right (eqb m 2) (leapYear y) e)
+-- What ZDA's three fields give.
+pub three-sound : (d m y : List ℕ) → Sound (dateThree d m y)
+unfolding dateThree
+three-sound d m y = pick-sound (eqb (length d) 0) _ _ (λ e. no-sound (cond (eqb (length m) 0) (cond (eqb (length y) 0) 0 3) 2)) (at-sound 1 2 3 _ _ _)

@@ -1,6 +1,9 @@
 pub mod DigitLaws
+pub mod DigitText
 pub mod RangeLaws
 pub mod MinusLaws
+pub mod TimeLaws
+pub mod MonthLaws
 pub mod CalendarLaws
 pub mod ZoneLaws
 pub mod MaskLaws
