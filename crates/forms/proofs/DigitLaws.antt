@@ -44,12 +44,15 @@ digits-are lo hi s v e =
     let r = and-right (leb lo (length s)) _ (t .0) in
     (leb-true lo (length s) (and-left _ _ (t .0)), (leb-true (length s) hi (and-left _ _ r), t .1))
 
--- Up to hi digits are below 10 ^ hi.
+-- Digits are below the power of their number, and up to hi digits below 10 ^ hi.
+pub digits-below : (lo hi : ℕ) (s : List ℕ) (v : ℕ) → digitsOf lo hi s ≡ some v → v < 10 ^ length s
+digits-below lo hi s v e =
+    let r : v < 10 ^ (0 + length s) = from-lt s 0 0 v (lit< tt) (digits-are lo hi s v e .1 .1) in
+    rw zero-add at r
+
 pub digits-lt : (lo hi : ℕ) (s : List ℕ) (v : ℕ) → digitsOf lo hi s ≡ some v → v < 10 ^ hi
 digits-lt lo hi s v e =
-    let t = digits-are lo hi s v e in
-    let r : v < 10 ^ (0 + length s) = from-lt s 0 0 v (lit< tt) (t .1 .1) in
-    lt-of-lt-of-le (rw zero-add at r) (pow-le-pow-right {n = 10} (lit< tt) (t .1 .0))
+    lt-of-lt-of-le (digits-below lo hi s v e) (pow-le-pow-right {n = 10} (lit< tt) (digits-are lo hi s v e .1 .0))
 
 -- Two digits are below 100.
 pub pair-lt : (k : ℕ) (f : List ℕ) (o : Option ℕ) → pairAt k f ≡ o → BelowHundred o

@@ -1,15 +1,16 @@
 -- Digits from both sides: what was read is the value's own digits, first digit by first digit.
-use Prim.Native.Nat.{ℕ, zero, suc, _+_, _-_, _*_, _/_, _%_, _^_, _≤_}
+use Prim.Native.Nat.{ℕ, zero, suc, _+_, _-_, _*_, _/_, _%_, _^_, _≤_, _<_}
 use mathlib.Core.Path.{_≡_, refl, sym, ap, _∙_}
 use mathlib.Core.List.{List, [], _∷_, _++_}
 use mathlib.Core.Option.{some}
 use native.Mathlib.Omega.{arith}
-use native.Mathlib.Nat.{div-one, div-div-eq-div-mul, pow-suc, mul-comm}
+use native.Mathlib.Nat.{div-one, div-div-eq-div-mul, pow-suc, mul-comm, mod-eq-of-lt, zero-mul, zero-add}
 use lib.Dec.{leb}
 use lib.ListN.{length, take, drop, take-append-drop}
 use lib.Seq.{drop-drop}
-use borrow.Author.Tests.{leb-true}
+use borrow.Author.Tests.{leb-true, le-leb}
 use Rattle.digits.specs.Decimal.{isDigit, digitsFrom, digitsOf, printFixed}
+use Rattle.digits.proofs.DecimalLaws.{length-fixed, digits-rt}
 use Rattle.digits.proofs.Bools.{and-left, and-right}
 use Rattle.forms.specs.Pairs.{pairAt}
 use Rattle.forms.proofs.DigitLaws.{let-through, digits-are}
@@ -18,7 +19,7 @@ less : (v k : ℕ) → v / 10 / 10 ^ k ≡ v / 10 ^ suc k
 less v k = rw (div-div-eq-div-mul, pow-suc, mul-comm 10 (10 ^ k))
 
 -- The first digit, and those of the rest.
-fixed-first : (k v : ℕ) → printFixed (suc k) v ≡ (48 + v / 10 ^ k % 10) ∷ printFixed k v
+pub fixed-first : (k v : ℕ) → printFixed (suc k) v ≡ (48 + v / 10 ^ k % 10) ∷ printFixed k v
 unfolding printFixed
 fixed-first zero v = rw div-one
 fixed-first (suc k) v =
@@ -48,6 +49,11 @@ digits-length w s v e = let t = digits-are w w s v e in omega (arith, t .0, t .1
 -- The bytes of w digits are the value printed in w digits.
 pub fixed-text : (w : ℕ) (s : List ℕ) (v : ℕ) → digitsOf w w s ≡ some v → s ≡ printFixed w v
 fixed-text w s v e = digits-text w w s v e ∙ ap (λ (k : ℕ). printFixed k v) (digits-length w s v e)
+
+-- A value printed in lo to hi digits, and in no more than nine, is read again.
+pub text-digits : (lo hi w v : ℕ) → lo ≤ w → w ≤ hi → w ≤ 9 → v < 10 ^ w → digitsOf lo hi (printFixed w v) ≡ some v
+unfolding digitsOf
+text-digits lo hi w v h k l m = rw (length-fixed, le-leb lo w h, le-leb w hi k, le-leb w 9 l, digits-rt, mod-eq-of-lt m, zero-mul, zero-add)
 
 -- The same of two digits at a place; and what stands from there on, cut after them.
 pub pair-text : (k : ℕ) (f : List ℕ) (v : ℕ) → pairAt k f ≡ some v → take 2 (drop k f) ≡ printFixed 2 v

@@ -7,3 +7,5 @@ pub mod MonthLaws
 pub mod CalendarLaws
 pub mod ZoneLaws
 pub mod MaskLaws
+pub mod MaskText
+pub mod RateLaws

@@ -17,9 +17,7 @@ use Rattle.digits.specs.Same.{same}
 use Rattle.digits.specs.Hex.{hexDigit}
 use Rattle.digits.proofs.Bools.{and-left, and-right}
 use Rattle.forms.specs.Masks.{hexValue, hexFrom, hexDigitsOf, satellitesOf, isPortMask, portMaskOf}
-use Rattle.forms.specs.Rates.{plainOf, rateOf, codeOf}
 use Rattle.forms.proofs.DigitLaws.{let-through, never}
-use Rattle.forms.proofs.RangeLaws.{within-is}
 
 or-cases : (a b : Bool) → (a || b) ≡ true → (a ≡ true) ⊎ (b ≡ true)
 or-cases true b e = inl refl
@@ -122,12 +120,3 @@ port-mask-lt v e =
     let a = eqb-true (v / 128 % 2) 0 (and-left _ _ e) in
     let b = eqb-true (v / 4096) 0 (and-right (eqb (v / 128 % 2) 0) _ e) in
     (a, omega arith)
-
--- A rate that was read is from 1200 to 115200, and a code from 0 to 255.
-pub rate-range : (f : List ℕ) (v : ℕ) → rateOf f ≡ some v → (1200 ≤ v) × (v ≤ 115200)
-unfolding rateOf
-rate-range f v e = within-is 1200 115200 (plainOf 4 6 f) v e .1
-
-pub code-range : (f : List ℕ) (v : ℕ) → codeOf f ≡ some v → v ≤ 255
-unfolding codeOf
-code-range f v e = within-is 0 255 (plainOf 1 3 f) v e .1 .1
