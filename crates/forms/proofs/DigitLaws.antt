@@ -44,12 +44,13 @@ digits-are lo hi s v e =
     let r = and-right (leb lo (length s)) _ (t .0) in
     (leb-true lo (length s) (and-left _ _ (t .0)), (leb-true (length s) hi (and-left _ _ r), t .1))
 
--- Digits are below the power of their number, and up to hi digits below 10 ^ hi.
+-- Digits are below the power of their number.
 pub digits-below : (lo hi : ℕ) (s : List ℕ) (v : ℕ) → digitsOf lo hi s ≡ some v → v < 10 ^ length s
 digits-below lo hi s v e =
     let r : v < 10 ^ (0 + length s) = from-lt s 0 0 v (lit< tt) (digits-are lo hi s v e .1 .1) in
     rw zero-add at r
 
+-- Up to hi digits are below 10 ^ hi.
 pub digits-lt : (lo hi : ℕ) (s : List ℕ) (v : ℕ) → digitsOf lo hi s ≡ some v → v < 10 ^ hi
 digits-lt lo hi s v e =
     lt-of-lt-of-le (digits-below lo hi s v e) (pow-le-pow-right {n = 10} (lit< tt) (digits-are lo hi s v e .1 .0))

@@ -55,10 +55,11 @@ pub text-digits : (lo hi w v : ℕ) → lo ≤ w → w ≤ hi → w ≤ 9 → v 
 unfolding digitsOf
 text-digits lo hi w v h k l m = rw (length-fixed, le-leb lo w h, le-leb w hi k, le-leb w 9 l, digits-rt, mod-eq-of-lt m, zero-mul, zero-add)
 
--- The same of two digits at a place; and what stands from there on, cut after them.
+-- The same of two digits at a place.
 pub pair-text : (k : ℕ) (f : List ℕ) (v : ℕ) → pairAt k f ≡ some v → take 2 (drop k f) ≡ printFixed 2 v
 unfolding pairAt
 pair-text k f v e = fixed-text 2 (take 2 (drop k f)) v e
 
+-- What stands from there on is those two digits and the rest.
 pub pair-cut : (k : ℕ) (f : List ℕ) (v : ℕ) → pairAt k f ≡ some v → drop k f ≡ printFixed 2 v ++ drop (k + 2) f
 pair-cut k f v e = sym (take-append-drop 2 (drop k f)) ∙ rw (pair-text k f v e, drop-drop)

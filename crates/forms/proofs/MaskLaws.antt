@@ -30,6 +30,7 @@ hex-either b e =
     ⊎-elim (λ p. inl (leb-true 48 b (and-left _ _ p), leb-true b 57 (and-right (leb 48 b) _ p)))
     (λ p. inr (leb-true 65 b (and-left _ _ p), leb-true b 70 (and-right (leb 65 b) _ p))) (or-cases _ _ e)
 
+-- So it is no byte below 48.
 pub hex-from-48 : (b : ℕ) → hexDigit b ≡ true → 48 ≤ b
 hex-from-48 b e = ⊎-elim (λ p. p .0) (λ p. omega arith) (hex-either b e)
 
@@ -39,31 +40,36 @@ unfolding hexValue
 hex-value-lt b e =
     ⊎-elim (λ p. rw (le-leb b 57 (p .1)) (omega arith)) (λ p. rw (lt-leb b 57 (omega arith)) (omega arith)) (hex-either b e)
 
--- one more digit
+-- One digit more is below one power more.
 pub hex-step : (i : ℕ) {n d : ℕ} → n < 16 ^ i → d < 16 → n * 16 + d < 16 ^ (i + 1)
 hex-step i {n} {d} h k = rw (add-one, pow-suc) (omega arith)
 
+-- Seven digits leave room for one more in 32 bits.
 pub hex-room : {i : ℕ} → i ≤ 7 → {n : ℕ} → n < 16 ^ i → n < 268435456
 hex-room {i} h {n} k = omega (arith, pow-le-pow-right {n = 16} (lit< tt) h)
 
--- the scan at a digit, and at another byte
+-- The scan at a place of its bytes.
 module _ (s : List ℕ) (i n : ℕ) (h : i < length s) where
+  -- At a digit the scan goes on with the value of one digit more.
   pub hex-on : hexDigit (getD s i 0) ≡ true → hexFrom n (drop i s) ≡ hexFrom (n * 16 + hexValue (getD s i 0)) (drop (i + 1) s)
   unfolding hexFrom
   hex-on e = rw (drop-cons s i 0 h, add-one, e)
 
+  -- At any other byte it gives nothing.
   pub hex-off : hexDigit (getD s i 0) ≡ false → hexFrom n (drop i s) ≡ none
   unfolding hexFrom
   hex-off e = rw (drop-cons s i 0 h, e)
 
+-- At the end it gives the value so far.
 pub hex-end : (s : List ℕ) (i n : ℕ) → length s ≤ i → hexFrom n (drop i s) ≡ some n
 unfolding hexFrom
 hex-end s i n h = rw (drop-of-length-le s h)
 
--- All ones are one less than the next power.
+-- All ones and one more are the next power.
 pub ones-step : (i v : ℕ) → v + 1 ≡ 16 ^ i → v * 16 + 15 + 1 ≡ 16 ^ (i + 1)
 ones-step i v h = rw (add-one i, pow-suc) (omega arith)
 
+-- So in the end they are one less than the power of the width.
 pub ones-all : (i w v : ℕ) → i ≤ w → w ≤ i → v + 1 ≡ 16 ^ i → v ≡ 16 ^ w - 1
 ones-all i w v h k e = let p : i ≡ w = omega arith in let q = rw p at e in omega arith
 
@@ -101,7 +107,7 @@ satellites-lt w f v e = go (same f (ascii "-1")) (leb w 8) e
     go true false q = never v q
     go false b q = hex-lt 1 w f v q
 
--- A port mask that was read has bit 7 zero and is below 2 ^ 12.
+-- A port mask that was read is one.
 pub port-mask-is : (f : List ℕ) (v : ℕ) → portMaskOf f ≡ some v → isPortMask v ≡ true
 unfolding portMaskOf bind
 port-mask-is f v e = go (hexDigitsOf 4 4 f) e
@@ -114,6 +120,7 @@ port-mask-is f v e = go (hexDigitsOf 4 4 f) e
         let p : n ≡ v = cc in
         rw p at (t .0)
 
+-- Such a mask has no bit 7, and is below 2 ^ 12.
 pub port-mask-lt : (v : ℕ) → isPortMask v ≡ true → (v / 128 % 2 ≡ 0) × (v < 4096)
 unfolding isPortMask
 port-mask-lt v e =

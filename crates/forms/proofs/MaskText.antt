@@ -61,6 +61,7 @@ from-text (b ∷ s) n v e =
 pub hex-text : (lo hi : ℕ) (s : List ℕ) (v : ℕ) → hexDigitsOf lo hi s ≡ some v → s ≡ printHex (length s) v
 hex-text lo hi s v e = sym (from-text s 0 v (hex-are lo hi s v e .1 .1) .1)
 
+-- w digits are so many bytes.
 pub length-hex : (w n : ℕ) → length (printHex w n) ≡ w
 unfolding printHex
 length-hex zero n = refl
@@ -92,17 +93,18 @@ pub text-hex : (lo hi w v : ℕ) → lo ≤ w → w ≤ hi → w ≤ 8 → v < 1
 unfolding hexDigitsOf
 text-hex lo hi w v h k l m = rw (length-hex, le-leb lo w h, le-leb w hi k, le-leb w 8 l, hex-rt, mod-eq-of-lt m, zero-mul, zero-add)
 
--- A field of exactly w digits is the value printed in them, and so read again.
+-- A field of exactly w digits is the value printed in them.
 pub whole-text : (w : ℕ) (f : List ℕ) (v : ℕ) → hexDigitsOf w w f ≡ some v → (v < 16 ^ w) × (f ≡ printHex w v)
 whole-text w f v e =
     let t = hex-are w w f v e in
     let l : length f ≡ w = omega (arith, t .0, t .1 .0) in
     (hex-lt w w f v e, hex-text w w f v e ∙ ap (λ (k : ℕ). printHex k v) l)
 
+-- And each value that fits is read so.
 pub text-whole : (w v : ℕ) → w ≤ 8 → v < 16 ^ w → hexDigitsOf w w (printHex w v) ≡ some v
 text-whole w v h k = text-hex w w w v (le-refl w) (le-refl w) h k
 
--- A port mask that was read is printed in four digits, and so read again.
+-- A port mask that was read is printed in four digits.
 pub port-text : (f : List ℕ) (v : ℕ) → portMaskOf f ≡ some v → (isPortMask v ≡ true) × (f ≡ printHex 4 v)
 unfolding portMaskOf bind
 port-text f v e = go (hexDigitsOf 4 4 f) refl e
@@ -115,6 +117,7 @@ port-text f v e = go (hexDigitsOf 4 4 f) refl e
         let m : n ≡ v = cc in
         (rw m at (t .0), whole-text 4 f v (p ∙ s) .1)
 
+-- And each port mask is read so.
 pub text-port : (v : ℕ) → isPortMask v ≡ true → portMaskOf (printHex 4 v) ≡ some v
 unfolding portMaskOf bind
 text-port v e = rw (text-whole 4 v (lit≤ tt) (omega (arith, port-mask-lt v e .1)), e)
@@ -136,10 +139,12 @@ satellites-text w f v e = go (same f (ascii "-1")) refl (leb w 8) refl e
     go true p false r q = never v q
     go false p b r q = let t = hex-are 1 w f v q in inr (t .0, (t .1 .0, hex-text 1 w f v q))
 
+-- And `-1` is read as all ones.
 pub text-all : (w : ℕ) → w ≤ 8 → satellitesOf w (ascii "-1") ≡ some (16 ^ w - 1)
 unfolding satellitesOf
 text-all w h = rw (same-refl (ascii "-1"), le-leb w 8 h)
 
+-- And each value that fits is read so.
 pub text-satellites : (w k v : ℕ) → 1 ≤ k → k ≤ w → k ≤ 8 → v < 16 ^ k → satellitesOf w (printHex k v) ≡ some v
 unfolding satellitesOf
 text-satellites w k v h i j l =

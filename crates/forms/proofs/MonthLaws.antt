@@ -33,8 +33,9 @@ february true true x e = let z : _≡_ {A = ℕ} 0 1 = cc in let w : ⊥ = omega
 february true false x e = refl
 february false l x e = refl
 
--- Of a month that is no February of a leap year, the list has the days; such a February has 29.
+-- A month of some year.
 module _ (m y : ℕ) (h : 1 ≤ m) (k : m ≤ 12) where
+  -- Of a month that is no February of a leap year, the list has the days.
   pub days-common : (eqb m 2 && leapYear y) ≡ false → getD lengths (m - 1) 0 ≡ daysIn m y
   unfolding daysIn leapYear
   days-common e =
@@ -43,6 +44,7 @@ module _ (m y : ℕ) (h : 1 ≤ m) (k : m ≤ 12) where
       ∙ ap (λ n. daysIn n 1) s
       ∙ rw (le-leb 1 m h, le-leb m 12 k) (february (eqb m 2) _ _ e))
 
+  -- Such a February has 29.
   pub days-leap : (eqb m 2 && leapYear y) ≡ true → daysIn m y ≡ 29
   unfolding daysIn
   days-leap e = rw (le-leb 1 m h, le-leb m 12 k, and-left (eqb m 2) (leapYear y) e, and-right (eqb m 2) (leapYear y) e)

@@ -87,29 +87,32 @@ text-plain lo hi f v h p =
     rw (p .text, length-fixed (p .width) v, no-zero (p .width) v (p .fits) (p .needed))
     (text-digits lo hi (p .width) v (p .from) (p .to) (le-trans (p .to) h) (p .fits))
 
--- A rate that was read is from 1200 to 115200, and a code from 0 to 255.
+-- A rate that was read is from 1200 to 115200.
 pub rate-range : (f : List ℕ) (v : ℕ) → rateOf f ≡ some v → (1200 ≤ v) × (v ≤ 115200)
 unfolding rateOf
 rate-range f v e = within-is 1200 115200 (plainOf 4 6 f) v e .1
 
+-- A code that was read is at most 255.
 pub code-range : (f : List ℕ) (v : ℕ) → codeOf f ≡ some v → v ≤ 255
 unfolding codeOf
 code-range f v e = within-is 0 255 (plainOf 1 3 f) v e .1 .1
 
--- A rate that was read is a number from 1200 to 115200 without leading zeros, and so read again.
+-- A rate that was read is a number from 1200 to 115200 without leading zeros.
 pub rate-text : (f : List ℕ) (v : ℕ) → rateOf f ≡ some v → ((1200 ≤ v) × (v ≤ 115200)) × PlainText 4 6 f v
 unfolding rateOf
 rate-text f v e = let t = within-is 1200 115200 (plainOf 4 6 f) v e in (t .1, plain-text 4 6 f v (t .0))
 
+-- And each such text is read so.
 pub text-rate : (f : List ℕ) (v : ℕ) → 1200 ≤ v → v ≤ 115200 → PlainText 4 6 f v → rateOf f ≡ some v
 unfolding rateOf
 text-rate f v h k p = rw (text-plain 4 6 f v (lit≤ tt) p) (within-yes 1200 115200 v h k)
 
--- A code that was read is a number from 0 to 255 without needless zeros, and so read again.
+-- A code that was read is a number from 0 to 255 without needless zeros.
 pub code-text : (f : List ℕ) (v : ℕ) → codeOf f ≡ some v → (v ≤ 255) × PlainText 1 3 f v
 unfolding codeOf
 code-text f v e = let t = within-is 0 255 (plainOf 1 3 f) v e in (t .1 .1, plain-text 1 3 f v (t .0))
 
+-- And each such text is read so.
 pub text-code : (f : List ℕ) (v : ℕ) → v ≤ 255 → PlainText 1 3 f v → codeOf f ≡ some v
 unfolding codeOf
 text-code f v k p = rw (text-plain 1 3 f v (lit≤ tt) p) (within-yes 0 255 v (omega arith) k)

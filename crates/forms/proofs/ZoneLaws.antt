@@ -17,7 +17,7 @@ use Rattle.digits.proofs.DecimalLaws.{fixed-rt}
 use Rattle.forms.specs.declared.got.GotInt.{GotInt}
 use Rattle.forms.specs.Got.{pick, missingInt, gotIntOf, withinOf}
 use Rattle.forms.specs.Pairs.{pairAt}
-use Rattle.forms.specs.Zone.{minus, bareOf, signed, intAt, zoneAt, zoneTwo, zoneFour}
+use Rattle.forms.specs.Zone.{minus, bareOf, zoneOf, gotZoneAt, zoneAt, zoneTwo, zoneFour}
 use Rattle.forms.proofs.DigitLaws.{let-through, never}
 use Rattle.forms.proofs.DigitText.{pair-cut, fixed-text}
 use Rattle.forms.proofs.RangeLaws.{within-yes, within-is}
@@ -33,13 +33,13 @@ rest s k = take-all (length s - k) (drop k s) (rw length-drop (le-refl _))
 
 -- In one field all is wrong at 1.
 pub zone-one : (s : Bool) (hours minutes : Option ℕ)
-    → zoneAt 1 s hours minutes ≡ gotIntOf (bind hours λ h. bind minutes λ m. signed s (h * 60 + m))
+    → zoneAt 1 s hours minutes ≡ gotIntOf (bind hours λ h. bind minutes λ m. zoneOf s (h * 60 + m))
 unfolding zoneAt bind
 zone-one s none minutes = refl
 zone-one s (some h) none = refl
-zone-one s (some h) (some m) = go (signed s (h * 60 + m))
+zone-one s (some h) (some m) = go (zoneOf s (h * 60 + m))
   where
-    go : (o : Option ℤ) → intAt 1 o ≡ gotIntOf o
+    go : (o : Option ℤ) → gotZoneAt 1 o ≡ gotIntOf o
     go none = refl
     go (some z) = refl
 
@@ -48,8 +48,8 @@ abs-neg zero = refl
 abs-neg (suc n) = refl
 
 -- The sign does not change the minutes.
-signed-abs : (s : Bool) (n : ℕ) (z : ℤ) → signed s n ≡ some z → natAbs z ≡ n
-unfolding signed
+signed-abs : (s : Bool) (n : ℕ) (z : ℤ) → zoneOf s n ≡ some z → natAbs z ≡ n
+unfolding zoneOf
 signed-abs false n z e = let p : pos n ≡ z = cc in ap natAbs (sym p)
 signed-abs true n z e = go (eqb n 0) e
   where
@@ -63,9 +63,9 @@ record Parts (s : Bool) (hours minutes : Option ℕ) (z : ℤ) : Type 0 where
   m : ℕ
   is-h : hours ≡ some h
   is-m : minutes ≡ some m
-  is-z : signed s (h * 60 + m) ≡ some z
+  is-z : zoneOf s (h * 60 + m) ≡ some z
 
-parts : (s : Bool) (oh om : Option ℕ) (z : ℤ) → bind oh (λ h. bind om λ m. signed s (h * 60 + m)) ≡ some z → Parts s oh om z
+parts : (s : Bool) (oh om : Option ℕ) (z : ℤ) → bind oh (λ h. bind om λ m. zoneOf s (h * 60 + m)) ≡ some z → Parts s oh om z
 unfolding bind
 parts s none om z e = never z e
 parts s (some h) none z e = never z e
@@ -82,14 +82,14 @@ four-parts : (f : List ℕ) (z : ℤ) → zoneFour f ≡ some z
     → (length (bareOf f) ≡ 4) × Parts (minus f) (withinOf 0 13 (pairAt 0 (bareOf f))) (withinOf 0 59 (pairAt 2 (bareOf f))) z
 unfolding zoneFour
 four-parts f z e =
-    let t = let-through (eqb (length (bareOf f)) 4) (bind (withinOf 0 13 (pairAt 0 (bareOf f))) λ h. bind (withinOf 0 59 (pairAt 2 (bareOf f))) λ m. signed (minus f) (h * 60 + m)) z e in
+    let t = let-through (eqb (length (bareOf f)) 4) (bind (withinOf 0 13 (pairAt 0 (bareOf f))) λ h. bind (withinOf 0 59 (pairAt 2 (bareOf f))) λ m. zoneOf (minus f) (h * 60 + m)) z e in
     (eqb-true (length (bareOf f)) 4 (t .0), parts (minus f) _ _ z (t .1))
 
 -- A zone in one field is within 839 minutes of zero.
 pub four-range : (f : List ℕ) (z : ℤ) → zoneFour f ≡ some z → natAbs z ≤ 839
 four-range f z e = parts-le (minus f) (pairAt 0 (bareOf f)) (pairAt 2 (bareOf f)) z (four-parts f z e .1)
 
-int-le : (n : ℕ) (o : Option ℤ) → ((z : ℤ) → o ≡ some z → natAbs z ≤ 839) → natAbs (intAt n o .value) ≤ 839
+int-le : (n : ℕ) (o : Option ℤ) → ((z : ℤ) → o ≡ some z → natAbs z ≤ 839) → natAbs (gotZoneAt n o .value) ≤ 839
 int-le n none k = omega arith
 int-le n (some z) k = k z refl
 
@@ -113,8 +113,8 @@ abbrev pub signText : ℤ → List ℕ
 signText (pos n) = []
 signText (negsuc n) = 45 ∷ []
 
-sign-is : (s : Bool) (n : ℕ) (z : ℤ) → signed s n ≡ some z → signText z ≡ cond s (45 ∷ []) []
-unfolding signed
+sign-is : (s : Bool) (n : ℕ) (z : ℤ) → zoneOf s n ≡ some z → signText z ≡ cond s (45 ∷ []) []
+unfolding zoneOf
 sign-is false n z e = let p : pos n ≡ z = cc in ap signText (sym p)
 sign-is true zero z e = never z e
 sign-is true (suc n) z e =
@@ -166,7 +166,7 @@ four-text f z e =
 abbrev pub theInt : ℤ → GotInt
 theInt z = record { wrong = 0; there = true; value = z }
 
-int-is : (n : ℕ) (o : Option ℤ) (z : ℤ) → intAt (suc n) o ≡ theInt z → o ≡ some z
+int-is : (n : ℕ) (o : Option ℤ) (z : ℤ) → gotZoneAt (suc n) o ≡ theInt z → o ≡ some z
 int-is n none z e = let w : suc n ≡ 0 = ap (λ (r : GotInt). r .wrong) e in let q : ⊥ = omega arith in absurd q
 int-is n (some y) z e = ap some (ap (λ (r : GotInt). r .value) e)
 
@@ -198,8 +198,8 @@ two-text h m z e =
     empty false = refl
 
 -- A zone printed is read again: first its sign and its bare text, then its two pairs.
-sign-back : (z : ℤ) (a : Bool) → signText z ≡ cond a (45 ∷ []) [] → signed a (natAbs z) ≡ some z
-unfolding signed
+sign-back : (z : ℤ) (a : Bool) → signText z ≡ cond a (45 ∷ []) [] → zoneOf a (natAbs z) ≡ some z
+unfolding zoneOf
 sign-back (pos n) false e = refl
 sign-back (pos n) true e = let w : _≡_ {A = ℕ} 0 1 = cc in let q : ⊥ = omega arith in absurd q
 sign-back (negsuc n) false e = let w : _≡_ {A = ℕ} 0 1 = cc in let q : ⊥ = omega arith in absurd q
@@ -221,7 +221,7 @@ some-bytes (pos k) n e = omega arith
 some-bytes (negsuc k) n e = omega arith
 
 module _ (z : ℤ) (k : natAbs z ≤ 839) where
-  joined : (a : Bool) → signText z ≡ cond a (45 ∷ []) [] → signed a (natAbs z / 60 * 60 + natAbs z % 60) ≡ some z
+  joined : (a : Bool) → signText z ≡ cond a (45 ∷ []) [] → zoneOf a (natAbs z / 60 * 60 + natAbs z % 60) ≡ some z
   joined a e = let s : natAbs z / 60 * 60 + natAbs z % 60 ≡ natAbs z = omega arith in rw s (sign-back z a e)
 
   bytes-0 : pairAt 0 (printFixed 2 (natAbs z / 60) ++ printFixed 2 (natAbs z % 60)) ≡ some (natAbs z / 60)
@@ -236,13 +236,14 @@ module _ (z : ℤ) (k : natAbs z ≤ 839) where
   unfolding printFixed
   shape = refl
 
-  -- The text of a zone is read as that zone, in one field and in two.
+  -- The text of a zone is read as that zone, in one field.
   pub text-four : zoneFour (signText z ++ (printFixed 2 (natAbs z / 60) ++ printFixed 2 (natAbs z % 60))) ≡ some z
   unfolding zoneFour bind
   text-four =
       let t = signed-first z (natAbs z / 60) (printFixed 2 (natAbs z % 60)) in
       rw (t .1, shape, bytes-0, bytes-2, within-yes 0 13 (natAbs z / 60) (omega arith) (omega arith), within-yes 0 59 (natAbs z % 60) (omega arith) (omega arith)) (joined _ (t .0))
 
+  -- And so it is in two fields.
   pub text-two : zoneTwo (signText z ++ printFixed 2 (natAbs z / 60)) (printFixed 2 (natAbs z % 60)) ≡ theInt z
   unfolding zoneTwo zoneAt bind
   text-two =

@@ -29,6 +29,7 @@ dateAt a b c (some d) (some m) (some y) = pick (isDate d m y) (theDate d m y) (n
 unfoldable pub fullYear : ℕ → ℕ
 fullYear yy = cond (ltb yy 80) (2000 + yy) (1900 + yy)
 
+-- One field of six digits, or an empty one.
 unfoldable pub dateSix : List ℕ → GotDate
 dateSix f =
     pick (eqb (length f) 0) (noDate 0)

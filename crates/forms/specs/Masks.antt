@@ -35,9 +35,11 @@ unfoldable pub satellitesOf : ℕ → List ℕ → Option ℕ
 satellitesOf width f =
     cond (same f (ascii "-1")) (cond (leb width 8) (some (16 ^ width - 1)) none) (hexDigitsOf 1 width f)
 
+-- A mask of satellites in a command, where it may be empty.
 unfoldable pub satellitesForm : ℕ → List ℕ → Got
 satellitesForm width f = maybeOf f (satellitesOf width f)
 
+-- A mask of satellites in a reply.
 unfoldable pub wholeForm : ℕ → List ℕ → Got
 wholeForm width f = gotOf (hexDigitsOf width width f)
 
@@ -45,9 +47,11 @@ wholeForm width f = gotOf (hexDigitsOf width width f)
 unfoldable pub isPortMask : ℕ → Bool
 isPortMask v = eqb (v / 128 % 2) 0 && eqb (v / 4096) 0
 
+-- Four digits that are such a mask.
 unfoldable pub portMaskOf : List ℕ → Option ℕ
 unfolding bind
 portMaskOf f = bind (hexDigitsOf 4 4 f) λ v. cond (isPortMask v) (some v) none
 
+-- The mask of a port, which may be empty.
 unfoldable pub portMaskForm : List ℕ → Got
 portMaskForm f = maybeOf f (portMaskOf f)
