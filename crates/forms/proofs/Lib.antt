@@ -7,11 +7,16 @@ pub mod FixedLaws
 pub mod NumberLaws
 pub mod AngleLaws
 pub mod DigitLaws
+pub mod DigitText
 pub mod RangeLaws
 pub mod MinusLaws
+pub mod TimeLaws
+pub mod MonthLaws
 pub mod CalendarLaws
 pub mod ZoneLaws
 pub mod MaskLaws
 pub mod NumberSides
 pub mod AngleSides
 pub mod PositionSides
+pub mod MaskText
+pub mod RateLaws

@@ -16,8 +16,10 @@ module _ (w : Width) {v : ℕ} (h : v < 2 ^ hbits w) where
   neg-is : pos 0 -ℤ toZ w v ≡ negℤ (pos v)
   neg-is = rw (toZ-pos w h, +ℤ-idl)
 
+  -- The negative fits.
   pub neg-fits : SFits w (pos 0 -ℤ toZ w v)
   neg-fits = rw neg-is (record { sfits = lt-of-le-of-lt (mag-neg v) h })
 
+  -- And it comes back as it was.
   pub neg-back : toZ w (ofZ w (pos 0 -ℤ toZ w v)) ≡ negℤ (pos v)
   neg-back = toZ-ofZ neg-fits ∙ neg-is

@@ -10,11 +10,12 @@ use Rattle.forms.specs.Got.{withinOf}
 use Rattle.forms.proofs.DigitLaws.{let-through}
 
 module _ (lo hi v : ℕ) where
-  -- A number in its range is let through, and one past it is not.
+  -- A number in its range is let through.
   pub within-yes : lo ≤ v → v ≤ hi → withinOf lo hi (some v) ≡ some v
   unfolding withinOf bind
   within-yes h k = rw (le-leb _ _ h, le-leb _ _ k)
 
+  -- A number past it is not.
   pub within-past : lo ≤ v → hi < v → withinOf lo hi (some v) ≡ none
   unfolding withinOf bind
   within-past h k = rw (le-leb _ _ h, lt-leb _ _ k)

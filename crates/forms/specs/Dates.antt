@@ -15,18 +15,21 @@ use Rattle.forms.specs.Calendar.{isDate}
 abbrev pub noDate : ℕ → GotDate
 noDate n = record { wrong = n; there = false; day = 0; month = 0; year = 0 }
 
+abbrev pub theDate : ℕ → ℕ → ℕ → GotDate
+theDate d m y = record { wrong = 0; there = true; day = d; month = m; year = y }
+
 -- The date of a day, a month and a year that stand in the fields a, b and c. The first bad one is wrong; the last, where there is no such date.
 unfoldable pub dateAt : ℕ → ℕ → ℕ → Option ℕ → Option ℕ → Option ℕ → GotDate
 dateAt a b c none om oy = noDate a
 dateAt a b c (some d) none oy = noDate b
 dateAt a b c (some d) (some m) none = noDate c
-dateAt a b c (some d) (some m) (some y) =
-    pick (isDate d m y) (record { wrong = 0; there = true; day = d; month = m; year = y }) (noDate c)
+dateAt a b c (some d) (some m) (some y) = pick (isDate d m y) (theDate d m y) (noDate c)
 
 -- The year that two digits mean.
 unfoldable pub fullYear : ℕ → ℕ
 fullYear yy = cond (ltb yy 80) (2000 + yy) (1900 + yy)
 
+-- One field of six digits, or an empty one.
 unfoldable pub dateSix : List ℕ → GotDate
 dateSix f =
     pick (eqb (length f) 0) (noDate 0)

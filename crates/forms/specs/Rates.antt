@@ -13,8 +13,18 @@ use Rattle.forms.specs.Got.{gotOf, maybeOf, withinOf}
 unfoldable pub plainOf : ℕ → ℕ → List ℕ → Option ℕ
 plainOf lo hi f = cond (ltb 1 (length f) && eqb (getD f 0 0) 48) none (digitsOf lo hi f)
 
-unfoldable pub rateForm : List ℕ → Got
-rateForm f = maybeOf f (withinOf 1200 115200 (plainOf 4 6 f))
+-- 1200 to 115200.
+unfoldable pub rateOf : List ℕ → Option ℕ
+rateOf f = withinOf 1200 115200 (plainOf 4 6 f)
 
+-- A rate, which may be empty.
+unfoldable pub rateForm : List ℕ → Got
+rateForm f = maybeOf f (rateOf f)
+
+-- 0 to 255.
+unfoldable pub codeOf : List ℕ → Option ℕ
+codeOf f = withinOf 0 255 (plainOf 1 3 f)
+
+-- A code, which is never empty.
 unfoldable pub codeForm : List ℕ → Got
-codeForm f = gotOf (withinOf 0 255 (plainOf 1 3 f))
+codeForm f = gotOf (codeOf f)

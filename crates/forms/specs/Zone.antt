@@ -12,29 +12,32 @@ use Rattle.forms.specs.declared.got.GotInt.{GotInt}
 use Rattle.forms.specs.Got.{pick, missingInt, withinOf}
 use Rattle.forms.specs.Pairs.{pairAt}
 
--- Whether a field begins with a minus, and the field without it.
+-- Whether a field begins with a minus.
 unfoldable pub minus : List ℕ → Bool
 minus f = eqb (getD f 0 0) 45
 
+-- The field without its minus.
 unfoldable pub bareOf : List ℕ → List ℕ
 bareOf f = cond (minus f) (drop 1 f) f
 
--- n minutes with their sign.
-unfoldable pub signed : Bool → ℕ → Option ℤ
-signed negative n = cond negative (cond (eqb n 0) none (some (negℤ (pos n)))) (some (pos n))
+-- n minutes with their sign; there is no minus zero.
+unfoldable pub zoneOf : Bool → ℕ → Option ℤ
+zoneOf negative n = cond negative (cond (eqb n 0) none (some (negℤ (pos n)))) (some (pos n))
 
-abbrev pub wrongInt : ℕ → GotInt
-wrongInt n = record { wrong = n; there = true; value = pos 0 }
+-- A zone that is wrong in field n.
+abbrev pub wrongZone : ℕ → GotInt
+wrongZone n = record { wrong = n; there = true; value = pos 0 }
 
-abbrev pub intAt : ℕ → Option ℤ → GotInt
-intAt n (some z) = record { wrong = 0; there = true; value = z }
-intAt n none = wrongInt n
+-- A zone that was read, or is wrong in field n.
+abbrev pub gotZoneAt : ℕ → Option ℤ → GotInt
+gotZoneAt n (some z) = record { wrong = 0; there = true; value = z }
+gotZoneAt n none = wrongZone n
 
 -- Wrong hours are wrong at 1, all else at n.
 unfoldable pub zoneAt : ℕ → Bool → Option ℕ → Option ℕ → GotInt
 unfolding bind
-zoneAt n negative none minutes = wrongInt 1
-zoneAt n negative (some h) minutes = intAt n (bind minutes λ m. signed negative (h * 60 + m))
+zoneAt n negative none minutes = wrongZone 1
+zoneAt n negative (some h) minutes = gotZoneAt n (bind minutes λ m. zoneOf negative (h * 60 + m))
 
 -- Two fields: where the hours are empty, the minutes are too, or they are wrong.
 unfoldable pub zoneTwo : List ℕ → List ℕ → GotInt
@@ -47,5 +50,5 @@ unfoldable pub zoneFour : List ℕ → Option ℤ
 unfolding bind
 zoneFour f =
     cond (eqb (length (bareOf f)) 4)
-    (bind (withinOf 0 13 (pairAt 0 (bareOf f))) λ h. bind (withinOf 0 59 (pairAt 2 (bareOf f))) λ m. signed (minus f) (h * 60 + m))
+    (bind (withinOf 0 13 (pairAt 0 (bareOf f))) λ h. bind (withinOf 0 59 (pairAt 2 (bareOf f))) λ m. zoneOf (minus f) (h * 60 + m))
     none

@@ -5,7 +5,7 @@ use digits::Num;
 ghost use mathlib.Core.Path.{_≡_};
 ghost use Rattle.digits.specs.Means.{num};
 ghost use Rattle.forms.specs.Got.{maybeIntOf, withinOf};
-ghost use Rattle.forms.specs.Zone.{minus, bareOf, wrongInt, zoneAt, zoneTwo, zoneFour};
+ghost use Rattle.forms.specs.Zone.{minus, bareOf, wrongZone, zoneAt, zoneTwo, zoneFour};
 
 // Whether a field begins with a minus.
 fn is_minus(f: &[u8]) -> bool
@@ -31,8 +31,8 @@ fn bare(f: &[u8]) -> &[u8]
 }
 
 // A field that is wrong.
-fn wrong_int(wrong: u8) -> GotInt
-    ensures { λ r. ⌜ r ≡ wrongInt wrong ⌝ }
+fn wrong_zone(wrong: u8) -> GotInt
+    ensures { λ r. ⌜ r ≡ wrongZone wrong ⌝ }
 {
     GotInt {
         wrong,
@@ -47,16 +47,16 @@ fn zone_at(negative: bool, hours: Num, minutes: Num, n: u8) -> GotInt
     ensures { λ r. ⌜ r ≡ zoneAt n negative (withinOf 0 13 (num hours)) (withinOf 0 59 (num minutes)) ⌝ }
 {
     let Num::Is(h) = hours else {
-        return wrong_int(1);
+        return wrong_zone(1);
     };
     if 13 < h {
-        return wrong_int(1);
+        return wrong_zone(1);
     }
     let Num::Is(m) = minutes else {
-        return wrong_int(n);
+        return wrong_zone(n);
     };
     if 59 < m {
-        return wrong_int(n);
+        return wrong_zone(n);
     }
     let v = h * 60 + m;
     if !negative {
@@ -67,7 +67,7 @@ fn zone_at(negative: bool, hours: Num, minutes: Num, n: u8) -> GotInt
         };
     }
     if v == 0 {
-        return wrong_int(n);
+        return wrong_zone(n);
     }
     GotInt {
         wrong: 0,
@@ -113,7 +113,7 @@ pub fn four(f: &[u8]) -> GotInt
     }
     let b = bare(f);
     if b.len() != 4 {
-        return wrong_int(1);
+        return wrong_zone(1);
     }
     zone_at(is_minus(f), pair_at(b, 0), pair_at(b, 2), 1)
 }

@@ -2,7 +2,7 @@
 use mathlib.Core.Path.{sym}
 use borrow.Author.Tests.{le-leb, lt-leb}
 use Rattle.forms.specs.Calendar.{daysIn}
-use Rattle.forms.proofs.CalendarLaws.{days-common, days-leap}
+use Rattle.forms.proofs.MonthLaws.{days-common, days-leap}
 use borrow.Author.Needs.{needs}
 use Rattle.forms.proofs.date.days_in.Statement.{statement}
 use Rattle.forms.proofs.date.days_in.Tie as tie

@@ -1,12 +1,12 @@
 -- `rate` meets its contract: it is the definition's own steps.
 use mathlib.Core.Path.{_∙_}
-use Rattle.forms.specs.Rates.{rateForm}
+use Rattle.forms.specs.Rates.{rateOf, rateForm}
 use borrow.Author.Needs.{needs}
 use Rattle.forms.proofs.mask.rate.Statement.{statement}
 use Rattle.forms.proofs.mask.rate.Tie as tie
 
 returns : tie.Need-returns
-unfolding rateForm
+unfolding rateForm rateOf
 returns c = c .maybe .ensures ∙ rw (c .before .within .ensures, c .before .before .plain .ensures)
 
 pub rate-spec : {M : Type 1} → statement M

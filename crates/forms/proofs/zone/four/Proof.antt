@@ -14,7 +14,7 @@ returns c = rw (eq-eqb _ _ (c .if1 .taken))
 
 returns-2 : tie.Need-returns-2
 unfolding maybeIntOf zoneFour
-returns-2 c = c .wrong-int .ensures ∙ rw (ne-eqb _ _ (c .before .before .before .if1 .left), ← c .before .before .bare .ensures, ne-eqb _ _ (c .before .if2 .taken))
+returns-2 c = c .wrong-zone .ensures ∙ rw (ne-eqb _ _ (c .before .before .before .if1 .left), ← c .before .before .bare .ensures, ne-eqb _ _ (c .before .if2 .taken))
 
 returns-3 : tie.Need-returns-3
 unfolding maybeIntOf zoneFour
