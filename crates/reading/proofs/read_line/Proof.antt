@@ -1,58 +1,50 @@
+-- `read_line` meets its contract: a line that passes has a body, which is read; any other is refused with its number.
+use Prim.Native.Nat.{_≤_}
+use mathlib.Core.Path.{_≡_, sym, _∙_}
+use native.Mathlib.Omega.{arith}
+use borrow.Author.Tests.{eq-eqb, ne-eqb}
+use lib.ListN.{length}
+use Rattle.line.proofs.Form.{passes-long}
+use Rattle.line.proofs.Laws.{body-part}
+use Rattle.reading.specs.Lines.{readLine}
 use borrow.Author.Needs.{needs}
 use Rattle.reading.proofs.read_line.Statement.{statement}
 use Rattle.reading.proofs.read_line.Tie as tie
-use Rattle.reading.proofs.read_line.Reads as reads
-use Rattle.reading.proofs.read_line.Lts as lts
-use Rattle.line.proofs.line_refusal.Reads as line-refusal-reads
-use Rattle.reading.proofs.read_body.Reads as read-body-reads
-use Rattle.records.proofs.blank.alone.Reads as alone-reads
 
--- src/lib.rt:73:9
-line-refusal-requires : tie.Need-line-refusal-requires
-line-refusal-requires c κs = search needs
+-- a line that passes is long enough
+long : (c : tie.Else1) → 7 ≤ length (c .before .before .before .args .line .now)
+long c = passes-long _ (sym (c .before .line-refusal .ensures) ∙ c .if1 .left)
 
--- src/lib.rt:75:9
-alone-requires : tie.Need-alone-requires
-alone-requires c κs = search needs
-
--- src/lib.rt:75:9
 returns : tie.Need-returns
-returns c = ?
+unfolding readLine
+returns c = c .alone .ensures ∙ rw (c .before .before .line-refusal .ensures, ne-eqb _ _ (rw (c .before .before .line-refusal .ensures) at (c .before .if1 .taken)))
 
--- src/lib.rt:77:15
 sub-end : tie.Need-sub-end
-sub-end c = ?
+sub-end c = omega (arith, long c)
 
--- src/lib.rt:78:15
 sub-read-body : tie.Need-sub-read-body
-sub-read-body c = ?
+sub-read-body c = omega (arith, long c)
 
--- src/lib.rt:78:15
 part-read-body-start : tie.Need-part-read-body-start
-part-read-body-start c = ?
+part-read-body-start c = let l = long c in search needs
 
--- src/lib.rt:78:15
 part-read-body-end : tie.Need-part-read-body-end
-part-read-body-end c = search needs
+part-read-body-end c = let l = long c in search needs
 
--- src/lib.rt:78:5
-read-body-requires : tie.Need-read-body-requires
-read-body-requires c κs = search needs
-
--- src/lib.rt:70:1
 returns-2 : tie.Need-returns-2
-returns-2 c = ?
+unfolding readLine
+returns-2 c = c .read-body .ensures ∙ rw (body-part, eq-eqb _ _ (sym (c .before .before .before .line-refusal .ensures) ∙ c .before .before .if1 .left))
 
 pub read-line-spec : {M : Type 1} → statement M
 read-line-spec =
     tie.close
     (tie.spec
-    line-refusal-requires
-    alone-requires
+    (λ c κs. search needs)
+    (λ c κs. search needs)
     returns
     sub-end
     sub-read-body
     part-read-body-start
     part-read-body-end
-    read-body-requires
+    (λ c κs. search needs)
     returns-2)
