@@ -51,7 +51,33 @@ def test_slow_input_in_odd_pieces():
     assert out == whole
 
 
-def test_an_argument_is_refused_in_words():
-    out, said = run("listing", SOUND, "log")
-    assert out == b""
-    assert said.startswith(b"listing: it reads a log from standard input and takes no argument"), said
+def test_every_sample_of_the_sources():
+    rows = [r.split("\t") for r in (ROOT / "tests" / "samples.txt").read_text().splitlines() if r and not r.startswith("#")]
+    log = b"".join(text.encode() + b"\r\n" for text, *_ in rows)
+    found = [i for i, (text, *_) in enumerate(rows) if is_found(text)]
+    assert len(found) > 100 and len(rows) - len(found) < 10
+    out = run("listing", log, "records")[0].splitlines()[1:]
+    assert len(out) == len(found)
+    for number, (got, i) in enumerate(zip(out, found), 1):
+        assert as_answer(got, number) == rows[i][1], (rows[i], got)
+
+
+def is_found(text):
+    """Whether the finder gives the text out, with CR LF at its end, as one line."""
+    return text.startswith("$") and "$" not in text[1:] and len(text) <= 80
+
+
+def as_answer(row, number):
+    """A row of the listing as an answer of tests/samples.txt."""
+    words = row.decode().split(" ")
+    assert words[0] == str(number), row
+    if words[2] == "refused":
+        return " ".join(words[2:])
+    return " ".join(["ok", words[1], *words[3:]])
+
+
+def test_a_wrong_argument_is_refused_in_words():
+    for words in (("log",), ("record",), ("records2",), ("records", "records"), ("",), ("r" * 300,)):
+        out, said = run("listing", SOUND, *words)
+        assert out == b"", words
+        assert said.startswith(b"listing: it reads a log from standard input and takes no argument but 'records',"), said

@@ -6,6 +6,7 @@ import sys
 from programs import ROOT, run
 
 PYTHON = [sys.executable]
+HEAD = b"no address answer\n"
 
 
 def second(mode, data):
@@ -27,17 +28,23 @@ def test_second_program_checks_itself():
     assert re.fullmatch(r"[1-9]\d* passed, 0 failed", last), last
 
 
-def as_far_as_the_address(listing):
-    """The second program's listing with the refusals that the library does not give yet, 4 and 5, as ok."""
-    return re.sub(rb"refused [45] \d+", b"ok", listing)
-
-
 def test_listing_agrees():
     for seed in (1, 2, 3):
         log = generated("log", 4000, seed)
         ours = run("listing", log)[0]
-        theirs = as_far_as_the_address(second("listing", log))
-        assert ours.count(b"\n") > 1000 and b"refused 1" in ours and b"refused 2" in ours and b"refused 3" in ours
-        for left, right in zip(ours.splitlines(), theirs.splitlines()):
-            assert left == right, (seed, left, right)
-        assert ours == theirs, seed
+        agree(ours, second("listing", log), seed)
+        for no in range(1, 6):
+            assert b"refused %d" % no in ours, (seed, no)
+
+
+def test_records_agree():
+    for seed in (11, 12, 13):
+        log = generated("log", 4000, seed)
+        agree(run("listing", log, "records")[0], HEAD + second("records", log), seed)
+
+
+def agree(ours, theirs, seed):
+    assert ours.count(b"\n") > 1000
+    for left, right in zip(ours.splitlines(), theirs.splitlines()):
+        assert left == right, (seed, left, right)
+    assert ours == theirs, seed

@@ -1,5 +1,7 @@
 // The listing of a log: standard input of any length, and a row for each line found in it.
+mod dump;
 mod row;
+mod value;
 
 use libc::STDERR_FILENO;
 use libc::STDIN_FILENO;
@@ -26,11 +28,17 @@ fn is_full(out: &[u8], place: usize) -> bool {
     if out.len() <= place {
         return true;
     }
-    out.len() - place < 64
+    out.len() - place < 1024
+}
+
+// Puts the row of one line.
+fn list_line(out: &mut [u8], place: usize, number: u64, line: &[u8], dumps: bool) -> usize {
+    let reading = reading::read_line(line);
+    row::put_row(out, place, number, line, reading, dumps)
 }
 
 // Writes a row for each line of `s`, by way of `out`, which holds many rows.
-fn list_lines(s: &[u8], out: &mut [u8], rows: u64) -> Listed {
+fn list_lines(s: &[u8], out: &mut [u8], rows: u64, dumps: bool) -> Listed {
     let mut number = rows;
     let mut at: usize = 0;
     let mut place: usize = 0;
@@ -48,7 +56,7 @@ fn list_lines(s: &[u8], out: &mut [u8], rows: u64) -> Listed {
         }
         let end = found.end;
         number = row::next(number);
-        place = row::put_row(out, place, number, &s[start..end]);
+        place = list_line(out, place, number, &s[start..end], dumps);
         if is_full(out, place) {
             written = written & flush(out, place);
             place = 0;
@@ -89,7 +97,7 @@ fn stop() -> Turn {
 }
 
 // Reads once and lists the lines that are whole; the bytes of an unfinished line are kept.
-fn take_turn(buf: &mut [u8], out: &mut [u8], kept: usize, rows: u64) -> Turn {
+fn take_turn(buf: &mut [u8], out: &mut [u8], kept: usize, rows: u64, dumps: bool) -> Turn {
     if buf.len() <= kept {
         return stop();
     }
@@ -102,7 +110,7 @@ fn take_turn(buf: &mut [u8], out: &mut [u8], kept: usize, rows: u64) -> Turn {
     if n == kept {
         return stop();
     }
-    let listed = list_lines(&buf[0..n], out, rows);
+    let listed = list_lines(&buf[0..n], out, rows, dumps);
     if !listed.written {
         os::fail(b"listing: standard output cannot be written");
         return stop();
@@ -117,12 +125,12 @@ fn take_turn(buf: &mut [u8], out: &mut [u8], kept: usize, rows: u64) -> Turn {
 
 // A proved loop has to end, and nothing says that the input does: so the turns are counted down
 // from a number that no run uses up.
-fn list_all(buf: &mut [u8], out: &mut [u8]) {
+fn list_all(buf: &mut [u8], out: &mut [u8], dumps: bool) {
     let mut turns = u64::MAX;
     let mut kept: usize = 0;
     let mut rows: u64 = 0;
     while 0 < turns {
-        let t = take_turn(buf, out, kept, rows);
+        let t = take_turn(buf, out, kept, rows, dumps);
         if !t.more {
             return;
         }
@@ -132,13 +140,32 @@ fn list_all(buf: &mut [u8], out: &mut [u8]) {
     }
 }
 
+// Whether the program's one argument is `records`.
+fn asks_for_records() -> bool {
+    let mut word = [0u8; 16];
+    let n = os::arg(1, &mut word);
+    (os::errno() == 0) & digits::same_bytes(&word[0..n], b"records")
+}
+
+fn say_usage() {
+    io::write_all(
+        STDERR_FILENO,
+        b"listing: it reads a log from standard input and takes no argument but 'records',\n",
+    );
+    io::write_all(
+        STDERR_FILENO,
+        b"which adds the numbers of each record: listing < log, or listing records < log\n",
+    );
+}
+
 fn main() {
+    let mut dumps = false;
     if 1 < os::arg_count() {
-        io::write_all(
-            STDERR_FILENO,
-            b"listing: it reads a log from standard input and takes no argument, as in: listing < log\n",
-        );
-        return;
+        dumps = asks_for_records() & (os::arg_count() == 2);
+        if !dumps {
+            say_usage();
+            return;
+        }
     }
     if !io::write_all(STDOUT_FILENO, b"no address answer\n") {
         os::fail(b"listing: standard output cannot be written");
@@ -146,5 +173,5 @@ fn main() {
     }
     let mut buf = io::large_buffer();
     let mut out = io::large_buffer();
-    list_all(&mut buf, &mut out);
+    list_all(&mut buf, &mut out, dumps);
 }

@@ -1,6 +1,7 @@
 // A row of the listing: the number of a line, its address or `-`, and the answer.
-ghost use Prim.Native.Nat.{_≤_};
-ghost use lib.ListN.{length};
+use crate::dump;
+use reading::Refusal;
+use records::Reading;
 
 // The number after `n`.
 pub fn next(n: u64) -> u64 {
@@ -30,17 +31,47 @@ pub fn put_number(out: &mut [u8], at: usize, n: u64) -> usize {
     put_bytes(out, at, &text[0..k])
 }
 
-// Puts the row of line `number`: its address, or `-` after refusals 1 to 3, and `ok`, or the number
-// and the field of its refusal.
-pub fn put_row(out: &mut [u8], at: usize, number: u64, line: &[u8]) -> usize {
-    let a1 = put_number(out, at, number);
-    let no = fields::address_refusal(line);
-    if no != 0 {
-        let a2 = put_bytes(out, a1, b" - refused ");
-        let a3 = put_number(out, a2, no as u64);
-        return put_bytes(out, a3, b" 0\n");
+// Puts the address of a line, or `-` where it has none that is known.
+fn put_address(out: &mut [u8], at: usize, no: u8, line: &[u8]) -> usize {
+    if (0 < no) & (no < 4) {
+        return put_bytes(out, at, b" -");
     }
-    let a2 = put_bytes(out, a1, b" ");
-    let a3 = put_bytes(out, a2, &line[1..6]);
-    put_bytes(out, a3, b" ok\n")
+    if line.len() < 7 {
+        return at;
+    }
+    let a1 = put_bytes(out, at, b" ");
+    put_bytes(out, a1, &line[1..6])
+}
+
+// Puts `ok`, or the number of a refusal and its field.
+fn put_answer(out: &mut [u8], at: usize, r: Refusal) -> usize {
+    if r.no == 0 {
+        return put_bytes(out, at, b" ok");
+    }
+    let a1 = put_bytes(out, at, b" refused ");
+    let a2 = put_number(out, a1, r.no as u64);
+    let a3 = put_bytes(out, a2, b" ");
+    put_number(out, a3, r.field as u64)
+}
+
+// Puts the row of line `number`, which came to `reading`; with the record's numbers, where they are
+// asked for.
+pub fn put_row(
+    out: &mut [u8],
+    at: usize,
+    number: u64,
+    line: &[u8],
+    reading: Reading,
+    dumps: bool,
+) -> usize {
+    let sentence = reading.sentence;
+    let refusal = reading::refusal_of(sentence);
+    let a1 = put_number(out, at, number);
+    let a2 = put_address(out, a1, refusal.no, line);
+    let a3 = put_answer(out, a2, refusal);
+    if dumps {
+        let a4 = dump::put_record(out, a3, reading);
+        return put_bytes(out, a4, b"\n");
+    }
+    put_bytes(out, a3, b"\n")
 }

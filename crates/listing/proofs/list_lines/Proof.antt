@@ -13,10 +13,10 @@ use Rattle.listing.proofs.list_lines.Statement.{statement}
 use Rattle.listing.proofs.list_lines.Tie as tie
 
 abbrev Inv-loop : tie.InvT-loop
-Inv-loop s out₀ rows number₀ at₀ place₀ written₀ out number at place written = (at ≤ length s) × (openLine (take at s) ≡ []) × (length out ≡ length out₀)
+Inv-loop s out₀ rows dumps number₀ at₀ place₀ written₀ out number at place written = (at ≤ length s) × (openLine (take at s) ≡ []) × (length out ≡ length out₀)
 
 abbrev μ-loop : tie.MeasureT-loop
-μ-loop s out₀ rows number₀ at₀ place₀ written₀ out number at place written = length s - at
+μ-loop s out₀ rows dumps number₀ at₀ place₀ written₀ out number at place written = length s - at
 
 loop-holds : tie.Need-loop-holds Inv-loop μ-loop
 unfolding openLine afterLast fromLast

@@ -1,0 +1,208 @@
+// The numbers of a record.
+use crate::value;
+use records::CodeTold;
+use records::DatumAsked;
+use records::DatumTold;
+use records::Entry;
+use records::Gga;
+use records::Gll;
+use records::Gsa;
+use records::Gsv;
+use records::MasksAsked;
+use records::MasksTold;
+use records::PortAsked;
+use records::PortTold;
+use records::Reading;
+use records::Rmc;
+use records::Sentence;
+use records::Vtg;
+use records::Zda;
+
+fn put_fix(out: &mut [u8], at: usize, r: Gga) -> usize {
+    let time = r.time;
+    let a0 = value::put_maybe(out, at, time);
+    let place = r.place;
+    let a1 = value::put_place(out, a0, place);
+    let a2 = value::put_value(out, a1, r.quality);
+    let satellites = r.satellites;
+    let a3 = value::put_maybe(out, a2, satellites);
+    let hdop = r.hdop;
+    value::put_number(out, a3, hdop)
+}
+
+fn put_heights(out: &mut [u8], at: usize, r: Gga) -> usize {
+    let altitude = r.altitude;
+    let a0 = value::put_signed(out, at, altitude);
+    let geoid = r.geoid;
+    let a1 = value::put_signed(out, a0, geoid);
+    let age = r.age;
+    let a2 = value::put_number(out, a1, age);
+    let station = r.station;
+    value::put_maybe(out, a2, station)
+}
+
+fn put_gga(out: &mut [u8], at: usize, r: Gga) -> usize {
+    let a0 = put_fix(out, at, r);
+    put_heights(out, a0, r)
+}
+
+fn put_gll(out: &mut [u8], at: usize, r: Gll) -> usize {
+    let place = r.place;
+    let a0 = value::put_place(out, at, place);
+    let time = r.time;
+    let a1 = value::put_maybe(out, a0, time);
+    let a2 = value::put_value(out, a1, r.status);
+    value::put_value(out, a2, r.mode)
+}
+
+fn put_rmc(out: &mut [u8], at: usize, r: Rmc) -> usize {
+    let time = r.time;
+    let a0 = value::put_maybe(out, at, time);
+    let a1 = value::put_value(out, a0, r.status);
+    let place = r.place;
+    let a2 = value::put_place(out, a1, place);
+    let speed = r.speed;
+    let a3 = value::put_knots(out, a2, speed);
+    let course = r.course;
+    let a4 = value::put_number(out, a3, course);
+    let date = r.date;
+    let a5 = value::put_date(out, a4, date);
+    let variation = r.variation;
+    let a6 = value::put_signed(out, a5, variation);
+    value::put_value(out, a6, r.mode)
+}
+
+fn put_vtg(out: &mut [u8], at: usize, r: Vtg) -> usize {
+    let course = r.course;
+    let a0 = value::put_number(out, at, course);
+    let magnetic = r.magnetic;
+    let a1 = value::put_number(out, a0, magnetic);
+    let knots = r.knots;
+    let a2 = value::put_knots(out, a1, knots);
+    let kmh = r.kmh;
+    let a3 = value::put_kmh(out, a2, kmh);
+    value::put_value(out, a3, r.mode)
+}
+
+fn put_zda(out: &mut [u8], at: usize, r: Zda) -> usize {
+    let time = r.time;
+    let a0 = value::put_maybe(out, at, time);
+    let date = r.date;
+    let a1 = value::put_date(out, a0, date);
+    let zone = r.zone;
+    value::put_zone(out, a1, zone)
+}
+
+fn put_port_asked(out: &mut [u8], at: usize, r: PortAsked) -> usize {
+    let port = r.port;
+    let a0 = value::put_maybe(out, at, port);
+    let rate = r.rate;
+    let a1 = value::put_maybe(out, a0, rate);
+    let protocol = r.protocol;
+    let a2 = value::put_maybe(out, a1, protocol);
+    let mask = r.mask;
+    value::put_maybe(out, a2, mask)
+}
+
+fn put_datum_asked(out: &mut [u8], at: usize, r: DatumAsked) -> usize {
+    let datum = r.datum;
+    let a0 = value::put_maybe(out, at, datum);
+    let zone = r.zone;
+    value::put_zone(out, a0, zone)
+}
+
+fn put_masks_asked(out: &mut [u8], at: usize, r: MasksAsked) -> usize {
+    let gps = r.gps;
+    let a0 = value::put_maybe(out, at, gps);
+    let glonass = r.glonass;
+    value::put_maybe(out, a0, glonass)
+}
+
+fn put_port_told(out: &mut [u8], at: usize, r: PortTold) -> usize {
+    let a0 = value::put_value(out, at, r.port);
+    let a1 = value::put_value(out, a0, r.rate);
+    let a2 = value::put_value(out, a1, r.protocol);
+    value::put_value(out, a2, r.mask)
+}
+
+fn put_datum_told(out: &mut [u8], at: usize, r: DatumTold) -> usize {
+    let a0 = value::put_value(out, at, r.datum);
+    value::put_int(out, a0, r.zone)
+}
+
+fn put_masks_told(out: &mut [u8], at: usize, r: MasksTold) -> usize {
+    let a0 = value::put_value(out, at, r.gps);
+    value::put_value(out, a0, r.glonass)
+}
+
+fn put_code_told(out: &mut [u8], at: usize, r: CodeTold) -> usize {
+    value::put_value(out, at, r.code)
+}
+
+fn put_gsa(out: &mut [u8], at: usize, r: Gsa) -> usize {
+    let a0 = value::put_value(out, at, r.selection);
+    let mut a = value::put_value(out, a0, r.fix);
+    let satellites = r.satellites;
+    let mut i: usize = 0;
+    while i < 12 {
+        let m = satellites[i];
+        a = value::put_maybe(out, a, m);
+        i += 1;
+    }
+    let pdop = r.pdop;
+    let hdop = r.hdop;
+    let vdop = r.vdop;
+    let a1 = value::put_number(out, a, pdop);
+    let a2 = value::put_number(out, a1, hdop);
+    value::put_number(out, a2, vdop)
+}
+
+fn put_entry(out: &mut [u8], at: usize, e: Entry) -> usize {
+    let elevation = e.elevation;
+    let azimuth = e.azimuth;
+    let signal = e.signal;
+    let a0 = value::put_value(out, at, e.number);
+    let a1 = value::put_maybe(out, a0, elevation);
+    let a2 = value::put_maybe(out, a1, azimuth);
+    value::put_maybe(out, a2, signal)
+}
+
+fn put_gsv(out: &mut [u8], at: usize, r: Gsv) -> usize {
+    let a0 = value::put_value(out, at, r.lines);
+    let a1 = value::put_value(out, a0, r.line);
+    let a2 = value::put_value(out, a1, r.satellites);
+    let mut a = value::put_value(out, a2, r.count);
+    let entries = r.entries;
+    let mut i: usize = 0;
+    while i < 4 {
+        let e = entries[i];
+        a = put_entry(out, a, e);
+        i += 1;
+    }
+    a
+}
+
+// Puts the numbers of the record of a sentence that was read; of a refused one there are none.
+pub fn put_record(out: &mut [u8], at: usize, reading: Reading) -> usize {
+    let sentence = reading.sentence;
+    let gsa = reading.gsa;
+    let gsv = reading.gsv;
+    match sentence {
+        Sentence::Gga(_, r) => put_gga(out, at, r),
+        Sentence::Gll(_, r) => put_gll(out, at, r),
+        Sentence::Gsa(_) => put_gsa(out, at, gsa),
+        Sentence::Gsv(_) => put_gsv(out, at, gsv),
+        Sentence::Rmc(_, r) => put_rmc(out, at, r),
+        Sentence::Vtg(_, r) => put_vtg(out, at, r),
+        Sentence::Zda(_, r) => put_zda(out, at, r),
+        Sentence::Pr(r) => put_port_asked(out, at, r),
+        Sentence::Tr(r) => put_datum_asked(out, at, r),
+        Sentence::Sr(r) => put_masks_asked(out, at, r),
+        Sentence::Er => at,
+        Sentence::Pa(r) => put_port_told(out, at, r),
+        Sentence::Ta(r) => put_datum_told(out, at, r),
+        Sentence::Sa(r) => put_masks_told(out, at, r),
+        Sentence::Ea(r) => put_code_told(out, at, r),
+        Sentence::Refused(_, _) => at,
+    }
+}
