@@ -2,7 +2,7 @@
 use Prim.Native.Nat.{ℕ}
 use mathlib.Core.List.{List, [], _∷_}
 use Rattle.forms.specs.declared.got.Got.{Got}
-use Rattle.forms.specs.Rates.{codeForm}
+use Rattle.masks.specs.Rates.{codeForm}
 use Rattle.records.specs.declared.Sentence.{Sentence}
 use Rattle.records.specs.declared.Sentence.the-variants.{Ea}
 use Rattle.records.specs.Wrong.{after, firstWrong}

@@ -3,8 +3,8 @@
 use Prim.Native.Nat.{ℕ}
 use mathlib.Core.List.{List, [], _∷_}
 use Rattle.forms.specs.declared.got.Got.{Got}
-use Rattle.forms.specs.Masks.{portMaskForm}
-use Rattle.forms.specs.Rates.{rateForm}
+use Rattle.masks.specs.Masks.{portMaskForm}
+use Rattle.masks.specs.Rates.{rateForm}
 use Rattle.kinds.specs.Kinds.{fixedForm}
 use Rattle.records.specs.declared.Sentence.{Sentence}
 use Rattle.records.specs.declared.Sentence.the-variants.{Pr}

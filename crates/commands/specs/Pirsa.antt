@@ -3,7 +3,7 @@ use Prim.Native.Nat.{ℕ}
 use mathlib.Core.List.{List, [], _∷_}
 use Rattle.forms.specs.declared.got.Got.{Got}
 use Rattle.forms.specs.Letters.{emptyWrong}
-use Rattle.forms.specs.Masks.{wholeForm}
+use Rattle.masks.specs.Masks.{wholeForm}
 use Rattle.records.specs.declared.Sentence.{Sentence}
 use Rattle.records.specs.declared.Sentence.the-variants.{Sa}
 use Rattle.records.specs.Wrong.{after, firstWrong}

@@ -3,7 +3,7 @@ use Prim.Native.Nat.{ℕ}
 use mathlib.Core.List.{List, [], _∷_}
 use Rattle.forms.specs.declared.got.Got.{Got}
 use Rattle.forms.specs.Letters.{emptyWrong}
-use Rattle.forms.specs.Masks.{satellitesForm}
+use Rattle.masks.specs.Masks.{satellitesForm}
 use Rattle.records.specs.declared.Sentence.{Sentence}
 use Rattle.records.specs.declared.Sentence.the-variants.{Sr}
 use Rattle.records.specs.Keep.{keptOf}

@@ -1,12 +1,12 @@
 -- Hex digits from both sides: what a digit is, and that it gives its value back.
-use Prim.Native.Nat.{ℕ, _+_, _-_, _≤_, _<_}
+use Prim.Native.Nat.{ℕ, _+_, _≤_, _<_}
 use mathlib.Core.Path.{_≡_, refl, sym, _∙_, ap}
-use mathlib.Core.Bool.{Bool, true, false, cond}
+use mathlib.Core.Bool.{Bool, true, false}
 use mathlib.Core.Logic.{_⊎_, inl, inr, ⊎-elim}
 use native.Mathlib.Omega.{arith}
-use lib.Dec.{ltb, leb}
+use lib.Dec.{ltb}
 use borrow.Author.Tests.{ltb-true, ltb-false, le-leb, lt-leb}
-use Rattle.digits.specs.Hex.{hexDigit, hexOf}
+use Rattle.digits.specs.Hex.{hexDigit, hexOf, hexValue}
 
 pub hex-cases : (n : ℕ) → ((n < 10) × (hexOf n ≡ n + 48)) ⊎ ((10 ≤ n) × (hexOf n ≡ n + 55))
 unfolding hexOf
@@ -16,10 +16,7 @@ hex-cases n = go (ltb n 10) refl
     go true e = inl (ltb-true n 10 e, simp e)
     go false e = inr (ltb-false n 10 e, simp e)
 
--- The value of a digit.
-pub hexValue : ℕ → ℕ
-hexValue b = cond (leb b 57) (b - 48) (b - 55)
-
+-- A digit has the value that it is the digit of.
 pub value-of : (n : ℕ) → hexValue (hexOf n) ≡ n
 unfolding hexValue
 value-of n =

@@ -1,5 +1,9 @@
 pub mod Bools
+pub mod Options
 pub mod Sameness
 pub mod HexLaws
 pub mod DecimalLaws
+pub mod Bounds
+pub mod DigitSides
 pub mod Finding
+pub mod Parts

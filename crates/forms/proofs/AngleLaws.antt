@@ -13,13 +13,13 @@ use Rattle.digits.specs.Ascii.{ascii}
 use Rattle.digits.specs.Decimal.{digitsOf}
 use Rattle.digits.specs.Same.{same}
 use Rattle.digits.proofs.Bools.{and-right}
+use Rattle.digits.proofs.Options.{through, nothing}
 use Rattle.forms.specs.Got.{pick, gotIntOf, missingInt}
 use Rattle.forms.specs.Sign.{signed, Under}
 use Rattle.forms.specs.Number.{belowOf}
 use Rattle.forms.specs.Angle.{joinedOf, angleOf, latitudeOf, longitudeOf, letteredOf, sidedOf, wrongInt, refusedAt, bothOf, positionForm, variationForm}
 use Rattle.forms.specs.declared.got.GotInt.{GotInt}
 use Rattle.forms.specs.declared.got.Position.{Position}
-use Rattle.forms.proofs.Bounds.{through, nothing}
 use Rattle.forms.proofs.SignLaws.{size}
 use Rattle.forms.proofs.NumberLaws.{below-lt}
 

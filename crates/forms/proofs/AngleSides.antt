@@ -13,9 +13,9 @@ use borrow.Author.Tests.{le-leb, lt-ltb, eq-eqb, leb-true, ltb-true, eqb-true}
 use Rattle.digits.specs.Decimal.{digitsOf, printFixed}
 use Rattle.digits.proofs.Bools.{and-left, and-right}
 use Rattle.digits.proofs.DecimalLaws.{length-fixed, fixed-rt}
+use Rattle.digits.proofs.Options.{through, nothing}
+use Rattle.digits.proofs.DigitSides.{fixed-are}
 use Rattle.forms.specs.Angle.{joinedOf, angleOf}
-use Rattle.forms.proofs.Bounds.{through, nothing}
-use Rattle.forms.proofs.DigitSides.{fixed-are}
 
 -- w digits of degrees, two of minutes, a point and four more, of a value in ten-thousandths of a minute.
 abbrev pub angleText : ℕ → ℕ → List ℕ

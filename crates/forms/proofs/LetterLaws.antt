@@ -12,8 +12,8 @@ use Rattle.digits.specs.Decimal.{findIn}
 use Rattle.digits.specs.Same.{same}
 use Rattle.digits.proofs.Bools.{and-true}
 use Rattle.digits.proofs.Sameness.{same-true, same-refl}
+use Rattle.digits.proofs.Options.{through, nothing}
 use Rattle.forms.specs.Letters.{isIn, letterOf, unitWrong}
-use Rattle.forms.proofs.Bounds.{through, nothing}
 
 -- One byte is a letter where it is that letter.
 pub same-one : (u : List ℕ) (b : ℕ) → length u ≡ 1 → same u (b ∷ []) ≡ eqb (getD u 0 0) b

@@ -10,9 +10,10 @@ use lib.IntN.{ℤ, natAbs}
 use lib.ListN.{length, drop, getD}
 use borrow.Author.Tests.{ltb-true, eq-eqb, ne-eqb}
 use Rattle.digits.specs.Decimal.{digitsOf, findIn}
+use Rattle.digits.proofs.Options.{through, nothing}
+use Rattle.digits.proofs.Bounds.{digits-lt, digits-len, digits-count}
 use Rattle.forms.specs.Sign.{signed, Under}
 use Rattle.forms.specs.Number.{before, behind, thousandths, numberOf, belowOf, heightOf}
-use Rattle.forms.proofs.Bounds.{through, nothing, digits-lt, digits-len, digits-count}
 use Rattle.forms.proofs.SignLaws.{size}
 
 scaled : (l v : ℕ) → 1 ≤ l → l ≤ 3 → v < 10 ^ l → v * 10 ^ (3 - l) < 1000

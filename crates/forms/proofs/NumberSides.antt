@@ -12,13 +12,14 @@ use lib.Dec.{eqb, ltb, lit<}
 use lib.ListN.{length, take, drop, length-append}
 use lib.Seq.{take-at, take-all, drop-append-add}
 use borrow.Author.Tests.{lt-ltb, le-ltb, ltb-true, ltb-false, ne-eqb, eqb-true}
+use lib.IntN.{ℤ}
 use Rattle.digits.specs.Decimal.{digitsOf, printFixed, findIn}
 use Rattle.digits.proofs.DecimalLaws.{length-fixed}
-use lib.IntN.{ℤ}
+use Rattle.digits.proofs.Options.{through, nothing}
+use Rattle.digits.proofs.Bounds.{digits-count, digits-len}
+use Rattle.digits.proofs.DigitSides.{digits-are, digits-read}
 use Rattle.forms.specs.Sign.{signed}
 use Rattle.forms.specs.Number.{before, behind, thousandths, numberOf, belowOf, heightOf}
-use Rattle.forms.proofs.Bounds.{through, nothing, digits-count, digits-len}
-use Rattle.forms.proofs.DigitSides.{digits-are, digits-read}
 
 -- The numbers, and their values in thousandths.
 pub data Written : List ℕ → ℕ → Type 0 where

@@ -4,10 +4,3 @@ pub mod Letters
 pub mod Sign
 pub mod Number
 pub mod Angle
-pub mod Pairs
-pub mod Time
-pub mod Calendar
-pub mod Dates
-pub mod Zone
-pub mod Masks
-pub mod Rates

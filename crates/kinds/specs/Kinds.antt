@@ -7,8 +7,8 @@ use Rattle.forms.specs.Got.{gotOf, maybeOf, maybeIntOf}
 use Rattle.forms.specs.Fixed.{fixedOf}
 use Rattle.forms.specs.Letters.{letterOf}
 use Rattle.forms.specs.Number.{numberOf, belowOf, heightOf}
-use Rattle.forms.specs.Time.{timeOf}
-use Rattle.forms.specs.Zone.{zoneFour}
+use Rattle.calendar.specs.Time.{timeOf}
+use Rattle.calendar.specs.Zone.{zoneFour}
 
 -- Time of day; may be empty.
 abbrev pub timeForm : List ℕ → Got

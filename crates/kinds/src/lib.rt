@@ -1,23 +1,23 @@
 // The kinds of field, read by the places that were found in one pass.
-use forms::date::GotDate;
+use calendar::date::GotDate;
 use forms::got::Got;
 use forms::got::GotInt;
 use forms::got::Position;
 ghost use mathlib.Core.Path.{_≡_};
 ghost use Rattle.fields.specs.Places.{fieldIn};
 ghost use Rattle.forms.specs.Angle.{positionForm, variationForm};
-ghost use Rattle.forms.specs.Dates.{dateSix, dateThree};
+ghost use Rattle.calendar.specs.Dates.{dateSix, dateThree};
 ghost use Rattle.forms.specs.Letters.{emptyWrong, unitWrong};
-ghost use Rattle.forms.specs.Masks.{portMaskForm, satellitesForm, wholeForm};
-ghost use Rattle.forms.specs.Rates.{codeForm, rateForm};
-ghost use Rattle.forms.specs.Zone.{zoneTwo};
+ghost use Rattle.masks.specs.Masks.{portMaskForm, satellitesForm, wholeForm};
+ghost use Rattle.masks.specs.Rates.{codeForm, rateForm};
+ghost use Rattle.calendar.specs.Zone.{zoneTwo};
 ghost use Rattle.kinds.specs.Kinds.{belowForm, exactForm, fixedForm, heightForm, letterForm, numberForm, timeForm, zoneFourForm};
 
 // A time of day, or missing.
 pub fn time_in(s: &[u8], p: &[usize], k: usize) -> Got
     ensures { λ r. ⌜ r ≡ timeForm (fieldIn (now (p .entry)) k (now (s .entry))) ⌝ }
 {
-    forms::time::time(fields::field_in(s, p, k))
+    calendar::time::time(fields::field_in(s, p, k))
 }
 
 // A number, or missing.
@@ -78,14 +78,14 @@ pub fn variation_in(s: &[u8], p: &[usize], k1: usize, k2: usize) -> GotInt
 pub fn six_in(s: &[u8], p: &[usize], k: usize) -> GotDate
     ensures { λ r. ⌜ r ≡ dateSix (fieldIn (now (p .entry)) k (now (s .entry))) ⌝ }
 {
-    forms::date::six(fields::field_in(s, p, k))
+    calendar::date::six(fields::field_in(s, p, k))
 }
 
 // A date in three fields, all or none.
 pub fn three_in(s: &[u8], p: &[usize], k1: usize, k2: usize, k3: usize) -> GotDate
     ensures { λ r. ⌜ r ≡ dateThree (fieldIn (now (p .entry)) k1 (now (s .entry))) (fieldIn (now (p .entry)) k2 (now (s .entry))) (fieldIn (now (p .entry)) k3 (now (s .entry))) ⌝ }
 {
-    forms::date::three(
+    calendar::date::three(
         fields::field_in(s, p, k1),
         fields::field_in(s, p, k2),
         fields::field_in(s, p, k3),
@@ -96,49 +96,49 @@ pub fn three_in(s: &[u8], p: &[usize], k1: usize, k2: usize, k3: usize) -> GotDa
 pub fn zone_in(s: &[u8], p: &[usize], k1: usize, k2: usize) -> GotInt
     ensures { λ r. ⌜ r ≡ zoneTwo (fieldIn (now (p .entry)) k1 (now (s .entry))) (fieldIn (now (p .entry)) k2 (now (s .entry))) ⌝ }
 {
-    forms::zone::two(fields::field_in(s, p, k1), fields::field_in(s, p, k2))
+    calendar::zone::two(fields::field_in(s, p, k1), fields::field_in(s, p, k2))
 }
 
 // A zone of four digits, or missing.
 pub fn four_in(s: &[u8], p: &[usize], k: usize) -> GotInt
     ensures { λ r. ⌜ r ≡ zoneFourForm (fieldIn (now (p .entry)) k (now (s .entry))) ⌝ }
 {
-    forms::zone::four(fields::field_in(s, p, k))
+    calendar::zone::four(fields::field_in(s, p, k))
 }
 
 // A mask of up to `width` digits, all ones, or missing.
 pub fn satellites_in(s: &[u8], p: &[usize], k: usize, width: usize) -> Got
     ensures { λ r. ⌜ r ≡ satellitesForm width (fieldIn (now (p .entry)) k (now (s .entry))) ⌝ }
 {
-    forms::mask::satellites(fields::field_in(s, p, k), width)
+    masks::satellites(fields::field_in(s, p, k), width)
 }
 
 // A mask of `width` digits, never empty.
 pub fn whole_in(s: &[u8], p: &[usize], k: usize, width: usize) -> Got
     ensures { λ r. ⌜ r ≡ wholeForm width (fieldIn (now (p .entry)) k (now (s .entry))) ⌝ }
 {
-    forms::mask::whole(fields::field_in(s, p, k), width)
+    masks::whole(fields::field_in(s, p, k), width)
 }
 
 // A port's mask, or missing.
 pub fn port_mask_in(s: &[u8], p: &[usize], k: usize) -> Got
     ensures { λ r. ⌜ r ≡ portMaskForm (fieldIn (now (p .entry)) k (now (s .entry))) ⌝ }
 {
-    forms::mask::port_mask(fields::field_in(s, p, k))
+    masks::port_mask(fields::field_in(s, p, k))
 }
 
 // A rate, or missing.
 pub fn rate_in(s: &[u8], p: &[usize], k: usize) -> Got
     ensures { λ r. ⌜ r ≡ rateForm (fieldIn (now (p .entry)) k (now (s .entry))) ⌝ }
 {
-    forms::mask::rate(fields::field_in(s, p, k))
+    masks::rate(fields::field_in(s, p, k))
 }
 
 // A self-test code, never empty.
 pub fn code_in(s: &[u8], p: &[usize], k: usize) -> Got
     ensures { λ r. ⌜ r ≡ codeForm (fieldIn (now (p .entry)) k (now (s .entry))) ⌝ }
 {
-    forms::mask::code(fields::field_in(s, p, k))
+    masks::code(fields::field_in(s, p, k))
 }
 
 // One letter of `set`, never empty.

@@ -5,8 +5,8 @@ use mathlib.Core.List.{List}
 use mathlib.Core.Bool.{Bool, true, false, cond, _&&_}
 use native.Mathlib.Omega.{arith}
 use native.Mathlib.Numerals.{add-one}
-use lib.ListN.{length, getD, take, drop, length-drop, drop-of-length-le}
-use lib.Seq.{drop-cons, take-all}
+use lib.ListN.{length, getD, take, drop, drop-of-length-le}
+use lib.Seq.{drop-cons}
 use lib.Bits.{bitXor}
 use borrow.Author.Tests.{eq-eqb, ne-eqb, le-leb, lt-leb}
 use Rattle.digits.proofs.Bools.{and-assoc, and-true}
@@ -61,9 +61,6 @@ module _ (s : List ℕ) (i : ℕ) (h : length s ≤ i) where
   unfolding xorFrom
   xor-end x = rw (drop-of-length-le s h)
 
--- the parts of a line that the code lends: from k to the end, and between
-pub rest-all : (k : ℕ) (l : List ℕ) → take (length l - k) (drop k l) ≡ drop k l
-rest-all k l = take-all (length l - k) (drop k l) (simp length-drop (omega arith))
-
+-- the part of a line between its first byte and its end, as the code lends it
 pub body-part : (l : List ℕ) → take (length l - 5 - 1) (drop 1 l) ≡ bodyOf l
 body-part l = let e : length l - 5 - 1 ≡ length l - 6 = omega arith in rw e

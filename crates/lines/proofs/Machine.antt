@@ -8,9 +8,9 @@ use native.Mathlib.Omega.{arith}
 use lib.Dec.{eqb}
 use lib.Bits.{bitXor, xor-comm}
 use borrow.Author.Tests.{eqb-true, eq-eqb, ne-eqb, leb-true}
-use Rattle.digits.specs.Hex.{hexOf}
+use Rattle.digits.specs.Hex.{hexOf, hexValue}
 use Rattle.digits.proofs.Bools.{and-left, and-right, true-false}
-use Rattle.digits.proofs.HexLaws.{hexValue, value-of}
+use Rattle.digits.proofs.HexLaws.{value-of}
 use Rattle.line.specs.Line.{noneOf, bodyByte, bodyBytes, xorFrom, xorOf, lineRefusal, bodyOf, asLine}
 use Rattle.line.proofs.Xor.{xor-back, xor-fixed}
 use Rattle.line.proofs.Form.{accepted}

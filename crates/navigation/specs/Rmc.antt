@@ -4,11 +4,11 @@ use mathlib.Core.List.{List, [], _∷_}
 use Rattle.digits.specs.Ascii.{ascii}
 use Rattle.address.specs.declared.Talker.{Talker}
 use Rattle.forms.specs.declared.got.Position.{Position}
-use Rattle.forms.specs.declared.date.GotDate.{GotDate}
+use Rattle.calendar.specs.declared.date.GotDate.{GotDate}
 use Rattle.forms.specs.declared.got.Got.{Got}
 use Rattle.forms.specs.declared.got.GotInt.{GotInt}
 use Rattle.forms.specs.Angle.{positionForm, variationForm}
-use Rattle.forms.specs.Dates.{dateSix}
+use Rattle.calendar.specs.Dates.{dateSix}
 use Rattle.kinds.specs.Kinds.{belowForm, letterForm, numberForm, timeForm}
 use Rattle.records.specs.declared.Sentence.{Sentence}
 use Rattle.records.specs.declared.Sentence.the-variants.{Rmc}

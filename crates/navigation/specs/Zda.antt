@@ -2,11 +2,11 @@
 use Prim.Native.Nat.{ℕ}
 use mathlib.Core.List.{List, [], _∷_}
 use Rattle.address.specs.declared.Talker.{Talker}
-use Rattle.forms.specs.declared.date.GotDate.{GotDate}
+use Rattle.calendar.specs.declared.date.GotDate.{GotDate}
 use Rattle.forms.specs.declared.got.Got.{Got}
 use Rattle.forms.specs.declared.got.GotInt.{GotInt}
-use Rattle.forms.specs.Dates.{dateThree}
-use Rattle.forms.specs.Zone.{zoneTwo}
+use Rattle.calendar.specs.Dates.{dateThree}
+use Rattle.calendar.specs.Zone.{zoneTwo}
 use Rattle.kinds.specs.Kinds.{timeForm}
 use Rattle.records.specs.declared.Sentence.{Sentence}
 use Rattle.records.specs.declared.Sentence.the-variants.{Zda}

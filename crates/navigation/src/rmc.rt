@@ -1,6 +1,6 @@
 // RMC: time, status, position, speed in knots, course, date, variation and mode.
 use address::Talker;
-use forms::date::GotDate;
+use calendar::date::GotDate;
 use forms::got::Got;
 use forms::got::GotInt;
 use forms::got::Position;

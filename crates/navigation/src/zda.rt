@@ -1,6 +1,6 @@
 // ZDA: time, date and zone.
 use address::Talker;
-use forms::date::GotDate;
+use calendar::date::GotDate;
 use forms::got::Got;
 use forms::got::GotInt;
 use records::Sentence;

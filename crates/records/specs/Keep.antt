@@ -4,7 +4,7 @@ use mathlib.Core.Bool.{Bool, true, false, cond, not, _&&_}
 use lib.Dec.{eqb}
 use lib.IntN.{pos}
 use Rattle.forms.specs.declared.got.Position.{Position}
-use Rattle.forms.specs.declared.date.GotDate.{GotDate}
+use Rattle.calendar.specs.declared.date.GotDate.{GotDate}
 use Rattle.forms.specs.declared.got.Got.{Got}
 use Rattle.forms.specs.declared.got.GotInt.{GotInt}
 use Rattle.records.specs.declared.values.Date.{Date}

@@ -7,7 +7,7 @@ use crate::values::Number;
 use crate::values::Place;
 use crate::values::Signed;
 use crate::values::Zone;
-use forms::date::GotDate;
+use calendar::date::GotDate;
 use forms::got::Got;
 use forms::got::GotInt;
 use forms::got::Position;

@@ -6,7 +6,8 @@ use borrow.Author.Needs.{needs}
 use borrow.Author.Tests.{not-true, not-false}
 use Rattle.digits.proofs.Bools.{yes, no}
 use Rattle.line.specs.Line.{lineRefusal, endForm, endOf, endGives}
-use Rattle.line.proofs.Laws.{line-short, line-long, line-other, line-no-end, line-bad, line-digits, rest-all, body-part}
+use Rattle.digits.proofs.Parts.{rest}
+use Rattle.line.proofs.Laws.{line-short, line-long, line-other, line-no-end, line-bad, line-digits, body-part}
 use Rattle.line.proofs.line_refusal.Statement.{statement}
 use Rattle.line.proofs.line_refusal.Tie as tie
 
@@ -22,10 +23,10 @@ returns-3 c = sym (line-other _ (omega arith) (omega arith) (c .if3 .taken))
 returns-4 : tie.Need-returns-4
 returns-4 c =
     let e = sym (c .before .end-form .ensures) ∙ not-true _ (c .if4 .taken) in
-    sym (line-no-end _ (omega arith) (omega arith) (c .before .before .before .if3 .left) (rw rest-all at e))
+    sym (line-no-end _ (omega arith) (omega arith) (c .before .before .before .if3 .left) (rw rest at e))
 
 has-end : (c : tie.Else4) → endForm (endOf (c .before .before .before .before .before .before .before .before .args .line .now)) ≡ true
-has-end c = let e = sym (c .before .end-form .ensures) ∙ not-false _ (c .if4 .left) in rw rest-all at e
+has-end c = let e = sym (c .before .end-form .ensures) ∙ not-false _ (c .if4 .left) in rw rest at e
 
 returns-5 : tie.Need-returns-5
 returns-5 c =
@@ -45,12 +46,12 @@ digits-left c =
 returns-6 : tie.Need-returns-6
 returns-6 c =
     let e = sym (c .before .end-gives .ensures) ∙ c .if6 .taken in
-    sym (digits-left (c .before .before) ∙ yes _ 0 2 (rw rest-all at e))
+    sym (digits-left (c .before .before) ∙ yes _ 0 2 (rw rest at e))
 
 returns-7 : tie.Need-returns-7
 returns-7 c =
     let e = sym (c .before .end-gives .ensures) ∙ c .if6 .left in
-    sym (digits-left (c .before .before) ∙ no _ 0 2 (rw rest-all at e))
+    sym (digits-left (c .before .before) ∙ no _ 0 2 (rw rest at e))
 
 pub line-refusal-spec : {M : Type 1} → statement M
 line-refusal-spec =

@@ -4,9 +4,9 @@ use mathlib.Core.Path.{_∙_}
 use native.Mathlib.Nat.{pow-le-pow-right}
 use lib.Dec.{lit<, lit≤}
 use borrow.Author.Tests.{eq-eqb, ne-eqb}
+use Rattle.digits.proofs.Parts.{front, middle, rest}
 use Rattle.forms.specs.Angle.{angleOf}
-use Rattle.forms.proofs.Parts.{front, middle, rest}
-use Rattle.forms.proofs.Bounds.{under}
+use Rattle.forms.proofs.RangeLaws.{under}
 use Rattle.forms.proofs.angle.angle.Statement.{statement}
 use Rattle.forms.proofs.angle.angle.Tie as tie
 

@@ -2,12 +2,12 @@
 use borrow.Author.Needs.{needs}
 use Prim.Native.Nat.{_<_}
 use mathlib.Core.Path.{subst}
-use Rattle.digits.specs.declared.Num.{Num}
-use Rattle.digits.specs.Means.{num}
-use Rattle.forms.specs.Sign.{Under}
 use mathlib.Core.Option.{bind}
 use native.Mathlib.Omega.{arith}
 use borrow.Author.Tests.{le-leb, lt-leb, lt-ltb, le-ltb}
+use Rattle.digits.specs.declared.Num.{Num}
+use Rattle.digits.specs.Means.{num}
+use Rattle.forms.specs.Sign.{Under}
 use Rattle.forms.specs.Angle.{joinedOf}
 use Rattle.forms.proofs.angle.joined.Statement.{statement}
 use Rattle.forms.proofs.angle.joined.Tie as tie

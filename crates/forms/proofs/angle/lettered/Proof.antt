@@ -1,13 +1,13 @@
 -- `lettered` meets its contract: the two letters are asked for as in the definition, and the value fits with either sign.
 use borrow.Author.Needs.{needs}
 use mathlib.Core.Path.{subst}
-use Rattle.digits.specs.declared.Num.{Num}
-use Rattle.digits.specs.Means.{num}
-use Rattle.forms.specs.Sign.{Under}
 use mathlib.Core.Bool.{_||_}
 use mir.Syntax.{w32}
 use mir.Facts.{toZ-ofZ}
 use borrow.Author.Tests.{not-true, not-false}
+use Rattle.digits.specs.declared.Num.{Num}
+use Rattle.digits.specs.Means.{num}
+use Rattle.forms.specs.Sign.{Under}
 use Rattle.forms.specs.Angle.{letteredOf}
 use Rattle.forms.proofs.angle.lettered.Statement.{statement}
 use Rattle.forms.proofs.angle.lettered.Tie as tie

@@ -2,8 +2,8 @@
 use borrow.Author.Needs.{needs}
 use mathlib.Core.Path.{_∙_}
 use borrow.Author.Tests.{eq-eqb, ne-eqb}
+use Rattle.digits.proofs.Parts.{rest}
 use Rattle.forms.specs.Got.{maybeIntOf}
-use Rattle.forms.proofs.Parts.{rest}
 use Rattle.forms.proofs.NumberLaws.{number-under, height-minus, height-plain}
 use Rattle.forms.proofs.number.height.Statement.{statement}
 use Rattle.forms.proofs.number.height.Tie as tie

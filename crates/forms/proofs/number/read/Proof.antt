@@ -6,9 +6,10 @@ use mathlib.Core.Option.{bind}
 use native.Mathlib.Omega.{arith}
 use borrow.Author.Tests.{lt-ltb, le-ltb}
 use Rattle.digits.specs.Means.{num}
+use Rattle.digits.proofs.Parts.{front, rest}
+use Rattle.digits.proofs.Finding.{find-le}
+use Rattle.digits.proofs.Bounds.{digits-lt}
 use Rattle.forms.specs.Number.{before, behind, numberOf}
-use Rattle.forms.proofs.Parts.{front, rest, find-le}
-use Rattle.forms.proofs.Bounds.{digits-lt}
 use Rattle.forms.proofs.NumberLaws.{thousandths-lt}
 use Rattle.forms.proofs.number.read.Statement.{statement}
 use Rattle.forms.proofs.number.read.Tie as tie

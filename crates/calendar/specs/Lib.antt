@@ -1,0 +1,5 @@
+pub mod Pairs
+pub mod Time
+pub mod Calendar
+pub mod Dates
+pub mod Zone
