@@ -1,8 +1,4 @@
 // The listing of a log: standard input of any length, and a row for each line found in it.
-mod dump;
-mod row;
-mod value;
-
 use libc::STDERR_FILENO;
 use libc::STDIN_FILENO;
 use libc::STDOUT_FILENO;
@@ -34,7 +30,7 @@ fn is_full(out: &[u8], place: usize) -> bool {
 // Puts the row of one line.
 fn list_line(out: &mut [u8], place: usize, number: u64, line: &[u8], dumps: bool) -> usize {
     let reading = reading::read_line(line);
-    row::put_row(out, place, number, line, reading, dumps)
+    rows::put_row(out, place, number, line, reading, dumps)
 }
 
 // Writes a row for each line of `s`, by way of `out`, which holds many rows.
@@ -55,7 +51,7 @@ fn list_lines(s: &[u8], out: &mut [u8], rows: u64, dumps: bool) -> Listed {
             };
         }
         let end = found.end;
-        number = row::next(number);
+        number = rows::next(number);
         place = list_line(out, place, number, &s[start..end], dumps);
         if is_full(out, place) {
             written = written & flush(out, place);

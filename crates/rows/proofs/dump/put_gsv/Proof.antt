@@ -1,24 +1,26 @@
--- `put_gsa` is safe and ends: the loop counts to twelve, and `out` keeps its length.
+-- `put_gsv` is safe and ends: the loop counts to four, and `out` keeps its length.
 use Prim.Native.Nat.{_≤_, _-_}
 use mathlib.Core.Path.{_≡_, refl}
 use native.Mathlib.Omega.{arith}
 use borrow.Author.Needs.{needs}
 use lib.ListN.{length}
-use Rattle.listing.proofs.dump.put_gsa.Statement.{statement}
-use Rattle.listing.proofs.dump.put_gsa.Tie as tie
+use Rattle.rows.proofs.dump.put_gsv.Statement.{statement}
+use Rattle.rows.proofs.dump.put_gsv.Tie as tie
 
 abbrev Inv-loop : tie.InvT-loop
-Inv-loop out₀ at r a0 a₀ satellites i₀ out a i = (i ≤ 12) × (length out ≡ length out₀)
+Inv-loop out₀ at a0 a1 a2 a₀ entries i₀ out a i = (i ≤ 4) × (length out ≡ length out₀)
 
 abbrev μ-loop : tie.MeasureT-loop
-μ-loop out₀ at r a0 a₀ satellites i₀ out a i = 12 - i
+μ-loop out₀ at a0 a1 a2 a₀ entries i₀ out a i = 4 - i
 
-pub put-gsa-spec : {M : Type 1} → statement M
-put-gsa-spec =
+pub put-gsv-spec : {M : Type 1} → statement M
+put-gsv-spec =
     tie.close
     (tie.spec
     Inv-loop
     μ-loop
+    (λ c κs. search needs)
+    (λ c κs. search needs)
     (λ c κs. search needs)
     (λ c κs. search needs)
     (λ c. (omega arith, omega arith))
@@ -28,8 +30,5 @@ put-gsa-spec =
     (λ c. search needs)
     (λ c. omega arith)
     (λ c. (omega arith, omega arith))
-    (λ c κs. search needs)
-    (λ c κs. search needs)
-    (λ c κs. search needs)
     (λ c. omega arith)
     (λ c. tt))
