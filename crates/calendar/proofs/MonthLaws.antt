@@ -1,5 +1,5 @@
 -- The list of the months' lengths is the calendar's of a common year, entry by entry, and a year differs from it in February alone.
-use Prim.Native.Nat.{ℕ, zero, suc, _+_, _-_, _≤_, _<_}
+use Prim.Native.Nat.{ℕ, _+_, _-_, _≤_}
 use mathlib.Core.Path.{_≡_, refl, ap, _∙_}
 use mathlib.Core.List.{List, [], _∷_}
 use mathlib.Core.Bool.{Bool, true, false, cond, _&&_}
@@ -8,17 +8,8 @@ use lib.Dec.{eqb}
 use lib.ListN.{getD}
 use borrow.Author.Tests.{le-leb}
 use Rattle.digits.proofs.Bools.{and-left, and-right}
+use Rattle.digits.proofs.Filled.{filled, filled-at}
 use Rattle.calendar.specs.Calendar.{leapYear, daysIn}
-
--- f k, f (k + 1), and so on: n of them
-abbrev filled : (ℕ → ℕ) → ℕ → ℕ → List ℕ
-filled f k zero = []
-filled f k (suc n) = f k ∷ filled f (suc k) n
-
-filled-at : (f : ℕ → ℕ) (k n b : ℕ) → b < n → getD (filled f k n) b 0 ≡ f (k + b)
-filled-at f k zero b h = let z : ⊥ = omega arith in absurd z
-filled-at f k (suc n) zero h = ap f (omega arith)
-filled-at f k (suc n) (suc b) h = filled-at f (suc k) n b (omega arith) ∙ ap f (omega arith)
 
 -- The lengths of the months of year 1, which is a common one.
 abbrev pub lengths : List ℕ

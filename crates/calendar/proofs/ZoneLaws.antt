@@ -1,4 +1,4 @@
--- The zone: its magnitude is what was joined, at most 13 hours and 59 minutes.
+-- The zone from both sides: its magnitude is what was joined, at most 13 hours and 59 minutes, and its sign is that of the hours.
 use Prim.Native.Nat.{ℕ, zero, suc, _+_, _*_, _/_, _%_, _≤_}
 use mathlib.Core.Path.{_≡_, refl, sym, ap, _∙_}
 use mathlib.Core.List.{List, [], _∷_, _++_, append-nil}

@@ -1,7 +1,8 @@
 -- What a test that holds, or a choice, says of its parts.
 use Prim.Native.Nat.{ℕ}
 use mathlib.Core.Path.{_≡_, refl}
-use mathlib.Core.Bool.{Bool, true, false, cond, _&&_}
+use mathlib.Core.Bool.{Bool, true, false, cond, _&&_, _||_}
+use mathlib.Core.Logic.{_⊎_, inl, inr}
 use native.Mathlib.Omega.{arith}
 
 pub and-left : (a b : Bool) → (a && b) ≡ true → a ≡ true
@@ -23,6 +24,11 @@ and-true false = refl
 pub and-assoc : (a b c : Bool) → ((a && b) && c) ≡ (a && (b && c))
 and-assoc true b c = refl
 and-assoc false b c = refl
+
+-- One of two tests holds.
+pub or-cases : (a b : Bool) → (a || b) ≡ true → (a ≡ true) ⊎ (b ≡ true)
+or-cases true b e = inl refl
+or-cases false b e = inr e
 
 -- A test is not both.
 pub true-false : {b : Bool} → b ≡ true → b ≡ false → ⊥

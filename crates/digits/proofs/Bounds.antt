@@ -12,7 +12,7 @@ use borrow.Author.Tests.{leb-true}
 use Rattle.digits.specs.Decimal.{isDigit, digitsFrom, digitsOf}
 use Rattle.digits.proofs.Bools.{and-left, and-right}
 use Rattle.digits.proofs.Options.{through}
-use Rattle.digits.proofs.DecimalLaws.{step-lt}
+use Rattle.digits.proofs.Powers.{step-lt}
 
 -- A digit is one of 0-9.
 pub digit-range : (b : ℕ) → isDigit b ≡ true → (48 ≤ b) × (b ≤ 57)
@@ -25,7 +25,7 @@ from-lt [] k acc v h e = let p : acc ≡ v = cc in rw (add-zero, ← p) h
 from-lt (b ∷ s) k acc v h e =
     let t = through _ _ _ e in
     let d : b - 48 < 10 = omega (arith, digit-range b (t .0) .1) in
-    let r : v < 10 ^ (k + 1 + length s) = from-lt s (k + 1) (acc * 10 + (b - 48)) v (step-lt k h d) (t .1) in
+    let r : v < 10 ^ (k + 1 + length s) = from-lt s (k + 1) (acc * 10 + (b - 48)) v (step-lt 10 k h d) (t .1) in
     let q : k + 1 + length s ≡ k + suc (length s) = omega arith in
     rw q at r
 

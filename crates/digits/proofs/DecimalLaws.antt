@@ -1,10 +1,10 @@
--- Decimal digits over the width: one more digit, the scan as a loop meets it, and that what is printed in a width reads back.
+-- Decimal digits over the width: the scan as a loop meets it, and that what is printed in a width reads back.
 use Prim.Native.Nat.{ℕ, zero, suc, _+_, _-_, _*_, _/_, _%_, _^_, _≤_, _<_}
 use mathlib.Core.Path.{_≡_, refl, _∙_}
 use mathlib.Core.List.{List, [], _∷_, _++_}
 use mathlib.Core.Bool.{Bool, true, false, cond}
 use native.Mathlib.Omega.{arith}
-use native.Mathlib.Nat.{le-refl, pow-suc, pow-le-pow-right, one-le-pow, mul-one, mod-one, add-zero, zero-add, zero-mul, add-mul, mul-assoc, add-assoc, add-sub-cancel-left, mod-eq-of-lt}
+use native.Mathlib.Nat.{le-refl, pow-suc, pow-le-pow-right, one-le-pow, mul-one, mod-one, add-zero, zero-add, zero-mul, add-sub-cancel-left, mod-eq-of-lt}
 use lib.Arith.{mod-mul}
 use native.Mathlib.Numerals.{add-one, sub-one}
 use lib.Dec.{lit<}
@@ -13,11 +13,9 @@ use lib.Seq.{drop-cons}
 use borrow.Author.Tests.{le-leb, lt-leb}
 use mathlib.Core.Option.{none, some}
 use Rattle.digits.specs.Decimal.{isDigit, digitsFrom, digitsOf, printFixed}
+use Rattle.digits.proofs.Powers.{sum-up}
 
--- one more digit
-pub step-lt : (i : ℕ) {acc d : ℕ} → acc < 10 ^ i → d < 10 → acc * 10 + d < 10 ^ (i + 1)
-step-lt i {acc} {d} h k = rw (add-one, pow-suc) (omega arith)
-
+-- eight digits leave room for one more
 pub room-lt : {i : ℕ} → i ≤ 8 → {acc : ℕ} → acc < 10 ^ i → acc < 100000000
 room-lt {i} h {acc} k = omega (arith, pow-le-pow-right {n = 10} (lit< tt) h)
 
@@ -44,9 +42,6 @@ unfolding printFixed
 length-fixed zero n = refl
 length-fixed (suc w) n = rw (length-append, length-fixed w (n / 10), add-one)
 
-sum-up : (acc d c r : ℕ) → (acc * c + r) * 10 + (48 + d - 48) ≡ acc * (c * 10) + (r * 10 + d)
-sum-up acc d c r = rw (add-sub-cancel-left 48 d, add-mul, mul-assoc, add-assoc)
-
 digits-snoc : (s : List ℕ) (b acc v : ℕ) → digitsFrom acc s ≡ some v → digitsFrom acc (s ++ (b ∷ [])) ≡ digitsFrom v (b ∷ [])
 unfolding digitsFrom isDigit
 digits-snoc [] b acc v h = let e : acc ≡ v = cc in rw e
@@ -63,7 +58,7 @@ unfolding printFixed digitsFrom isDigit
 digits-rt zero n acc = rw (mul-one, mod-one, add-zero)
 digits-rt (suc w) n acc =
     digits-snoc (printFixed w (n / 10)) (48 + n % 10) acc _ (digits-rt w (n / 10) acc)
-    ∙ rw (le-leb 48 (48 + n % 10) (omega arith), le-leb (48 + n % 10) 57 (omega arith), sum-up, pow-suc, mod-mul n {m = 10 ^ w} {c = 10} (one-le-pow w 10 (lit< tt)) (lit< tt))
+    ∙ rw (le-leb 48 (48 + n % 10) (omega arith), le-leb (48 + n % 10) 57 (omega arith), add-sub-cancel-left 48 (n % 10), sum-up, pow-suc, mod-mul n {m = 10 ^ w} {c = 10} (one-le-pow w 10 (lit< tt)) (lit< tt))
 
 pub fixed-rt : (w n : ℕ) → w ≤ 9 → n < 10 ^ w → digitsOf w w (printFixed w n) ≡ some n
 unfolding digitsOf

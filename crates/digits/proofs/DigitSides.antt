@@ -5,12 +5,13 @@ use mathlib.Core.Path.{_≡_, sym, ap, _∙_}
 use mathlib.Core.List.{List, [], _∷_, _++_, append-assoc, append-nil}
 use mathlib.Core.Option.{some, Option·some-injective}
 use native.Mathlib.Omega.{arith}
-use native.Mathlib.Nat.{add-zero, zero-add, zero-mul, mod-eq-of-lt, div-one, div-div-eq-div-mul, pow-suc, mul-comm}
+use native.Mathlib.Nat.{add-zero, zero-add, zero-mul, mod-eq-of-lt, div-one}
 use lib.ListN.{length}
 use borrow.Author.Tests.{le-leb}
 use Rattle.digits.specs.Decimal.{isDigit, digitsFrom, digitsOf, printFixed}
 use Rattle.digits.proofs.DecimalLaws.{length-fixed, digits-rt}
 use Rattle.digits.proofs.Options.{through}
+use Rattle.digits.proofs.Powers.{div-pow}
 use Rattle.digits.proofs.Bounds.{digit-range, opened, digits-len, digits-count}
 
 -- The value so far with one digit more, printed.
@@ -50,13 +51,10 @@ fixed-are w s v e =
     let q : length s ≡ w = omega arith in
     (rw q at (digits-are w w s v e), rw q at (digits-len w w s v e))
 
-less : (v k : ℕ) → v / 10 / 10 ^ k ≡ v / 10 ^ suc k
-less v k = rw (div-div-eq-div-mul, pow-suc, mul-comm 10 (10 ^ k))
-
 -- A value printed from its first digit on: that digit, and those of the rest.
 pub fixed-first : (k v : ℕ) → printFixed (suc k) v ≡ (48 + v / 10 ^ k % 10) ∷ printFixed k v
 unfolding printFixed
 fixed-first zero v = rw div-one
 fixed-first (suc k) v =
     ap (λ (l : List ℕ). l ++ ((48 + v % 10) ∷ [])) (fixed-first k (v / 10))
-    ∙ ap (λ (x : ℕ). (48 + x % 10) ∷ (printFixed k (v / 10) ++ ((48 + v % 10) ∷ []))) (less v k)
+    ∙ ap (λ (x : ℕ). (48 + x % 10) ∷ (printFixed k (v / 10) ++ ((48 + v % 10) ∷ []))) (div-pow 10 v k)

@@ -1,9 +1,11 @@
 pub mod Bools
 pub mod Options
 pub mod Sameness
+pub mod Filled
+pub mod Parts
+pub mod Finding
+pub mod Powers
 pub mod HexLaws
 pub mod DecimalLaws
 pub mod Bounds
 pub mod DigitSides
-pub mod Finding
-pub mod Parts

@@ -1,23 +1,12 @@
--- A table that a rule fills, entry by entry.
-use Prim.Native.Nat.{ℕ, zero, suc, _+_, _<_}
-use mathlib.Core.Path.{_≡_, refl, _∙_, ap}
-use mathlib.Core.List.{List, [], _∷_}
+-- Marks of a test: a table of them has the test's answer at each place, and joined bit by bit they answer for both tests.
+use Prim.Native.Nat.{ℕ, _<_}
+use mathlib.Core.Path.{_≡_, refl, _∙_}
 use mathlib.Core.Bool.{Bool, true, false, cond, _&&_}
 use native.Mathlib.Nat.{zero-add}
-use native.Mathlib.Omega.{arith}
 use lib.ListN.{getD}
 use lib.Dec.{eqb}
 use lib.Bits.{bitAnd}
-
--- f k, f (k + 1), and so on: n of them
-abbrev pub filled : (ℕ → ℕ) → ℕ → ℕ → List ℕ
-filled f k zero = []
-filled f k (suc n) = f k ∷ filled f (suc k) n
-
-pub filled-at : (f : ℕ → ℕ) (k n b : ℕ) → b < n → getD (filled f k n) b 0 ≡ f (k + b)
-filled-at f k zero b h = let z : ⊥ = omega arith in absurd z
-filled-at f k (suc n) zero h = ap f (omega arith)
-filled-at f k (suc n) (suc b) h = filled-at f (suc k) n b (omega arith) ∙ ap f (omega arith)
+use Rattle.digits.proofs.Filled.{filled, filled-at}
 
 -- Marks: `1` where a test holds, and `0` where not.
 abbrev pub marked : Bool → ℕ

@@ -1,9 +1,8 @@
 -- Hex digits over their number: each digit more is sixteen times as much room, and the scan as a loop meets it.
 use Prim.Native.Nat.{ℕ, suc, _+_, _-_, _*_, _/_, _%_, _^_, _≤_, _<_}
-use mathlib.Core.Path.{_≡_, refl}
+use mathlib.Core.Path.{_≡_}
 use mathlib.Core.List.{List, [], _∷_}
-use mathlib.Core.Bool.{Bool, true, false, cond, _&&_, _||_}
-use mathlib.Core.Logic.{_⊎_, inl, inr, ⊎-elim}
+use mathlib.Core.Bool.{Bool, true, false, cond, _&&_}
 use mathlib.Core.Option.{Option, none, some, bind}
 use native.Mathlib.Omega.{arith}
 use native.Mathlib.Nat.{pow-suc, pow-le-pow-right, one-le-pow, lt-of-lt-of-le, add-zero, zero-add}
@@ -11,38 +10,15 @@ use native.Mathlib.Numerals.{add-one}
 use lib.Dec.{leb, eqb, lit<}
 use lib.ListN.{length, drop, getD, drop-of-length-le}
 use lib.Seq.{drop-cons}
-use borrow.Author.Tests.{le-leb, lt-leb, leb-true, eqb-true}
+use borrow.Author.Tests.{leb-true, eqb-true}
 use Rattle.digits.specs.Ascii.{ascii}
 use Rattle.digits.specs.Same.{same}
 use Rattle.digits.specs.Hex.{hexDigit, hexValue}
 use Rattle.digits.proofs.Bools.{and-left, and-right}
 use Rattle.digits.proofs.Options.{through, nothing}
+use Rattle.digits.proofs.Powers.{step-lt}
+use Rattle.digits.proofs.HexLaws.{hex-value-lt}
 use Rattle.masks.specs.Masks.{hexFrom, hexDigitsOf, satellitesOf, isPortMask, portMaskOf}
-
-or-cases : (a b : Bool) → (a || b) ≡ true → (a ≡ true) ⊎ (b ≡ true)
-or-cases true b e = inl refl
-or-cases false b e = inr e
-
--- A digit is 0-9 or A-F.
-pub hex-either : (b : ℕ) → hexDigit b ≡ true → ((48 ≤ b) × (b ≤ 57)) ⊎ ((65 ≤ b) × (b ≤ 70))
-unfolding hexDigit
-hex-either b e =
-    ⊎-elim (λ p. inl (leb-true 48 b (and-left _ _ p), leb-true b 57 (and-right (leb 48 b) _ p)))
-    (λ p. inr (leb-true 65 b (and-left _ _ p), leb-true b 70 (and-right (leb 65 b) _ p))) (or-cases _ _ e)
-
--- So it is no byte below 48.
-pub hex-from-48 : (b : ℕ) → hexDigit b ≡ true → 48 ≤ b
-hex-from-48 b e = ⊎-elim (λ p. p .0) (λ p. omega arith) (hex-either b e)
-
--- Its value is below 16.
-pub hex-value-lt : (b : ℕ) → hexDigit b ≡ true → hexValue b < 16
-unfolding hexValue
-hex-value-lt b e =
-    ⊎-elim (λ p. rw (le-leb b 57 (p .1)) (omega arith)) (λ p. rw (lt-leb b 57 (omega arith)) (omega arith)) (hex-either b e)
-
--- One digit more is below one power more.
-pub hex-step : (i : ℕ) {n d : ℕ} → n < 16 ^ i → d < 16 → n * 16 + d < 16 ^ (i + 1)
-hex-step i {n} {d} h k = rw (add-one, pow-suc) (omega arith)
 
 -- Seven digits leave room for one more in 32 bits.
 pub hex-room : {i : ℕ} → i ≤ 7 → {n : ℕ} → n < 16 ^ i → n < 268435456
@@ -78,7 +54,7 @@ unfolding hexFrom
 from-lt [] k n v h e = let p : n ≡ v = cc in rw (add-zero, ← p) h
 from-lt (b ∷ s) k n v h e =
     let t = through _ (hexFrom (n * 16 + hexValue b) s) v e in
-    let r : v < 16 ^ (k + 1 + length s) = from-lt s (k + 1) (n * 16 + hexValue b) v (hex-step k h (hex-value-lt b (t .0))) (t .1) in
+    let r : v < 16 ^ (k + 1 + length s) = from-lt s (k + 1) (n * 16 + hexValue b) v (step-lt 16 k h (hex-value-lt b (t .0))) (t .1) in
     let q : k + 1 + length s ≡ k + suc (length s) = omega arith in
     rw q at r
 

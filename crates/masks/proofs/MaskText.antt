@@ -3,33 +3,24 @@ use Prim.Native.Nat.{ℕ, zero, suc, _+_, _-_, _*_, _/_, _%_, _^_, _≤_, _<_}
 use mathlib.Core.Path.{_≡_, refl, sym, ap, _∙_}
 use mathlib.Core.List.{List, [], _∷_, _++_}
 use mathlib.Core.Bool.{Bool, true, false, cond}
-use mathlib.Core.Logic.{_⊎_, inl, inr, ⊎-elim}
+use mathlib.Core.Logic.{_⊎_, inl, inr}
 use mathlib.Core.Option.{Option, none, some, bind}
 use native.Mathlib.Omega.{arith}
-use native.Mathlib.Nat.{div-one, div-div-eq-div-mul, pow-suc, mul-comm, mul-one, mod-one, add-zero, zero-add, zero-mul, add-mul, mul-assoc, add-assoc, mod-eq-of-lt, one-le-pow, le-refl}
+use native.Mathlib.Nat.{div-one, div-div-eq-div-mul, pow-suc, mul-one, mod-one, add-zero, zero-add, zero-mul, mod-eq-of-lt, one-le-pow, le-refl}
 use native.Mathlib.Numerals.{add-one}
 use lib.Arith.{mod-mul}
 use lib.Dec.{leb, lit<, lit≤}
 use lib.ListN.{length, length-append}
-use borrow.Author.Tests.{leb-true, le-leb, lt-leb, lt-ltb, le-ltb}
+use borrow.Author.Tests.{leb-true, le-leb}
 use Rattle.digits.specs.Ascii.{ascii}
 use Rattle.digits.specs.Hex.{hexDigit, hexOf, hexValue}
 use Rattle.digits.specs.Same.{same}
-use Rattle.digits.proofs.HexLaws.{value-of, hex-is}
+use Rattle.digits.proofs.HexLaws.{value-of, hex-is, hex-value-lt, digit-of}
+use Rattle.digits.proofs.Powers.{div-pow, sum-up}
 use Rattle.digits.proofs.Sameness.{same-true, same-refl, same-false}
 use Rattle.digits.proofs.Options.{through, nothing}
 use Rattle.masks.specs.Masks.{hexFrom, hexDigitsOf, printHex, satellitesOf, isPortMask, portMaskOf}
-use Rattle.masks.proofs.MaskLaws.{hex-either, hex-value-lt, hex-are, hex-lt, port-mask-lt}
-
--- A digit is that of its value.
-digit-of : (b : ℕ) → hexDigit b ≡ true → hexOf (hexValue b) ≡ b
-unfolding hexOf hexValue
-digit-of b e =
-    ⊎-elim (λ p. rw (le-leb b 57 (p .1), lt-ltb (b - 48) 10 (omega arith)) (omega arith))
-    (λ p. rw (lt-leb b 57 (omega arith), le-ltb (b - 55) 10 (omega arith)) (omega arith)) (hex-either b e)
-
-less : (v k : ℕ) → v / 16 / 16 ^ k ≡ v / 16 ^ suc k
-less v k = rw (div-div-eq-div-mul, pow-suc, mul-comm 16 (16 ^ k))
+use Rattle.masks.proofs.MaskLaws.{hex-are, hex-lt, port-mask-lt}
 
 -- The first digit, and those of the rest.
 hex-first : (k v : ℕ) → printHex (suc k) v ≡ hexOf (v / 16 ^ k % 16) ∷ printHex k v
@@ -37,7 +28,7 @@ unfolding printHex
 hex-first zero v = rw div-one
 hex-first (suc k) v =
     ap (λ (l : List ℕ). l ++ (hexOf (v % 16) ∷ [])) (hex-first k (v / 16))
-    ∙ ap (λ (x : ℕ). hexOf (x % 16) ∷ (printHex k (v / 16) ++ (hexOf (v % 16) ∷ []))) (less v k)
+    ∙ ap (λ (x : ℕ). hexOf (x % 16) ∷ (printHex k (v / 16) ++ (hexOf (v % 16) ∷ []))) (div-pow 16 v k)
 
 split : (x n d : ℕ) → x ≡ n * 16 + d → d < 16 → (x / 16 ≡ n) × (x % 16 ≡ d)
 split x n d e h = (omega arith, omega arith)
@@ -60,9 +51,6 @@ pub length-hex : (w n : ℕ) → length (printHex w n) ≡ w
 unfolding printHex
 length-hex zero n = refl
 length-hex (suc w) n = rw (length-append, length-hex w (n / 16), add-one)
-
-sum-up : (n d c r : ℕ) → (n * c + r) * 16 + d ≡ n * (c * 16) + (r * 16 + d)
-sum-up n d c r = rw (add-mul, mul-assoc, add-assoc)
 
 snoc : (s : List ℕ) (b n v : ℕ) → hexFrom n s ≡ some v → hexFrom n (s ++ (b ∷ [])) ≡ hexFrom v (b ∷ [])
 unfolding hexFrom

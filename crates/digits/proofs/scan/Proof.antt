@@ -5,7 +5,8 @@ use native.Mathlib.Omega.{arith}
 use borrow.Author.Needs.{needs}
 use lib.ListN.{length, drop}
 use Rattle.digits.specs.Decimal.{digitsFrom}
-use Rattle.digits.proofs.DecimalLaws.{step-lt, room-lt, scan-on, scan-low, scan-high, scan-end}
+use Rattle.digits.proofs.Powers.{step-lt}
+use Rattle.digits.proofs.DecimalLaws.{room-lt, scan-on, scan-low, scan-high, scan-end}
 use Rattle.digits.proofs.scan.Statement.{statement}
 use Rattle.digits.proofs.scan.Tie as tie
 
@@ -50,7 +51,7 @@ loop-again : tie.Need-loop-again Inv-loop μ-loop
 loop-again c = (
   omega arith,
   omega arith,
-  step-lt (c .before .before .before .before .before .loop .i) (c .before .before .before .before .before .loop .inv .2) (omega arith),
+  step-lt 10 (c .before .before .before .before .before .loop .i) (c .before .before .before .before .before .loop .inv .2) (omega arith),
   rw (c .wide .ensures) (sym (scan-on _ _ _ (c .before .before .before .before .loop-test .taken) (c .before .before .if1 .left) (c .before .if2 .left)) ∙ c .before .before .before .before .before .loop .inv .3),
 )
 

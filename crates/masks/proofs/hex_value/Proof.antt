@@ -3,7 +3,7 @@ use native.Mathlib.Omega.{arith}
 use borrow.Author.Tests.{le-leb, lt-leb}
 use borrow.Author.Needs.{needs}
 use Rattle.digits.specs.Hex.{hexValue}
-use Rattle.masks.proofs.MaskLaws.{hex-from-48}
+use Rattle.digits.proofs.HexLaws.{hex-from-48}
 use Rattle.masks.proofs.hex_value.Statement.{statement}
 use Rattle.masks.proofs.hex_value.Tie as tie
 

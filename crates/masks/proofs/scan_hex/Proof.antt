@@ -9,7 +9,9 @@ use denote.Ref.{now}
 use lib.ListN.{length, drop, getD}
 use Rattle.digits.specs.Hex.{hexDigit}
 use Rattle.masks.specs.Masks.{hexFrom}
-use Rattle.masks.proofs.MaskLaws.{hex-value-lt, hex-step, hex-room, hex-on, hex-off, hex-end}
+use Rattle.digits.proofs.Powers.{step-lt}
+use Rattle.digits.proofs.HexLaws.{hex-value-lt}
+use Rattle.masks.proofs.MaskLaws.{hex-room, hex-on, hex-off, hex-end}
 use Rattle.masks.proofs.scan_hex.Statement.{statement}
 use Rattle.masks.proofs.scan_hex.Tie as tie
 
@@ -42,7 +44,7 @@ loop-again : tie.Need-loop-again Inv-loop μ-loop
 loop-again c = (
   omega arith,
   omega arith,
-  hex-step (c .before .before .before .before .before .loop .i) (c .before .before .before .before .before .loop .inv .2) (rw (c .hex-value .ensures) (hex-value-lt _ (digit (c .before)))),
+  step-lt 16 (c .before .before .before .before .before .loop .i) (c .before .before .before .before .before .loop .inv .2) (rw (c .hex-value .ensures) (hex-value-lt _ (digit (c .before)))),
   rw (c .hex-value .ensures) (sym (hex-on _ _ _ (c .before .before .before .before .loop-test .taken) (digit (c .before))) ∙ c .before .before .before .before .before .loop .inv .3),
 )
 
