@@ -22,7 +22,13 @@ use Rattle.finder.specs.Slice.{foundAt}
 use Rattle.finder.proofs.History as History
 use Rattle.finder.proofs.SliceLines as SliceLines
 use Rattle.finder.specs.Finder.{openLine, givenAll}
-use Rattle.claims.proofs.Rows.{rows, allHold, rows-hold}
+use Rattle.address.specs.declared.Address.the-variants.{Unknown}
+use Rattle.address.specs.Address.{addressOf}
+use Rattle.records.specs.declared.Sentence.the-variants.{Refused}
+use Rattle.records.specs.Blank.{aloneOf}
+use Rattle.reading.specs.Lines.{readBody, readLine}
+use Rattle.reading.proofs.Order as Order
+use Rattle.claims.proofs.Rows.{rows, AllHold, rows-hold}
 
 -- What the line rule accepts is `$`, a body of 1 to 76 allowed bytes, `*`, the two digits of its XOR, CR, LF ..
 pub line-accepted : (l : List ℕ) → lineRefusal l ≡ 0 → Form.Body (bodyOf l) × (l ≡ asLine (bodyOf l))
@@ -86,6 +92,18 @@ pub slice-rest : (s : List ℕ) (at : ℕ) → foundAt s at .line ≡ false → 
     → givenAll [] (drop at s ++ t) ≡ givenAll [] (drop (foundAt s at .start) s ++ t)
 slice-rest = SliceLines.slice-rest
 
+-- A line that fails the line rule is refused with that number at field 0, and holds no record ..
+pub read-refused : (l : List ℕ) → (lineRefusal l ≡ 0 → ⊥) → readLine l ≡ aloneOf (Refused (lineRefusal l) 0)
+read-refused = Order.refused
+
+-- .. one that passes is read of its body; an unknown address is 3. What each kind comes to stands in specs/, as a table of its fields; the
+-- field forms from both sides stand in Forms.antt.
+pub read-sound : (l : List ℕ) → lineRefusal l ≡ 0 → readLine l ≡ readBody (bodyOf l)
+read-sound = Order.sound
+
+pub read-unknown : (l : List ℕ) → lineRefusal l ≡ 0 → addressOf (bodyOf l) ≡ Unknown → readLine l ≡ aloneOf (Refused 3 0)
+read-unknown = Order.unknown
+
 -- The worked rows hold of the definitions.
-pub worked-rows : allHold rows ≡ true
+pub worked-rows : AllHold rows
 worked-rows = rows-hold

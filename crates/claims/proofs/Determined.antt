@@ -24,6 +24,13 @@ use Rattle.finder.specs.Slice.{foundAt}
 equation : {A : Type 0} {x r s : A} → r ≡ x → s ≡ x → r ≡ s
 equation e f = e ∙ sym f
 
+-- A definition x permits one result: any two that are what it says are equal.
+abbrev pub One : {A : Type 0} → A → Type 0
+One {A} x = (r s : A) → r ≡ x → s ≡ x → r ≡ s
+
+pub one : {A : Type 0} {x : A} → One x
+one r s = equation
+
 -- Two parts of one slice at one place with the same bytes.
 pub record SamePart (r s : RefT (List ℕ)) : Type 0 where
   pub block : r .ptr .0 ≡ s .ptr .0

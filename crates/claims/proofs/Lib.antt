@@ -1,3 +1,5 @@
 pub mod Claims
+pub mod Forms
 pub mod Determined
+pub mod DeterminedReading
 pub mod Rows

@@ -1,18 +1,36 @@
--- The worked rows that are marked P, as a single list with one claim over it: each test of a row is computed.
+-- The worked rows that are marked P, as a single list with one claim over it: each row is an equation that is computed.
 use Prim.Native.Nat.{ℕ}
 use Prim.Native.String.{String}
 use mathlib.Core.Path.{_≡_, refl}
 use mathlib.Core.List.{List, [], _∷_}
-use mathlib.Core.Bool.{Bool, true, _&&_}
-use lib.Dec.{eqb}
+use mathlib.Core.Bool.{true}
+use mathlib.Core.Option.{some, bind}
+use lib.IntN.{pos, negℤ}
 use Rattle.digits.specs.Ascii.{ascii}
+use Rattle.digits.specs.Decimal.{isDigit, digitsFrom, digitsOf}
 use Rattle.digits.specs.Hex.{hexDigit, hexOf}
+use Rattle.digits.specs.Same.{same}
 use Rattle.line.specs.Line.{noneOf, bodyByte, bodyBytes, xorFrom, xorOf, endForm, lineForm, endGives, lineRefusal}
+use Rattle.forms.specs.declared.got.GotInt.{GotInt}
+use Rattle.forms.specs.Got.{gotIntOf, withinOf}
+use Rattle.forms.specs.Angle.{joinedOf, angleOf, latitudeOf, longitudeOf, wrongInt, letteredOf, sidedOf}
+use Rattle.calendar.specs.declared.date.GotDate.{GotDate}
+use Rattle.calendar.specs.Pairs.{pairAt}
+use Rattle.calendar.specs.Calendar.{leapYear, daysIn, isDate}
+use Rattle.calendar.specs.Dates.{noDate, theDate, dateAt, fullYear, dateSix}
+use Rattle.calendar.specs.Zone.{minus, bareOf, zoneOf, wrongZone, zoneAt, zoneTwo}
 
 -- What a row says.
 pub data Row : Type 0 where
   -- these bytes, as a line, come to this number of the line rule
   line : String → ℕ → Row
+  -- a latitude and its letter, and a longitude and its letter, come to this
+  latitude : String → String → GotInt → Row
+  longitude : String → String → GotInt → Row
+  -- the hours and minutes of a zone come to this
+  zone : String → String → GotInt → Row
+  -- the six digits of a date come to this
+  date : String → GotDate → Row
 
 pub rows : List Row
 rows =
@@ -20,17 +38,35 @@ rows =
     line "$GPGSV,5,5,17,77,71,048,53*43\r\n" 0
     -- P2: the same with 71 for 17: still a line, since XOR misses a swap
     ∷ line "$GPGSV,5,5,71,77,71,048,53*43\r\n" 0
+    -- P5, P6: degrees and minutes are joined, then negated by the letter
+    ∷ latitude "5550.6111" "N" (gotIntOf (some (pos 33506111)))
+    ∷ longitude "03732.2534" "W" (gotIntOf (some (negℤ (pos 22522534))))
+    -- P7: 90 degrees south, and nothing beyond
+    ∷ latitude "9000.0000" "S" (gotIntOf (some (negℤ (pos 54000000))))
+    ∷ latitude "9000.0001" "S" (wrongInt 1 true)
+    -- P8: the sign of -00 hours covers the minutes; there is no minus zero
+    ∷ zone "-00" "30" (gotIntOf (some (negℤ (pos 30))))
+    ∷ zone "-00" "00" (wrongZone 2)
+    ∷ zone "-13" "59" (gotIntOf (some (negℤ (pos 839))))
+    ∷ zone "14" "00" (wrongZone 1)
+    -- P9: 2000 was a leap year, 2023 was not
+    ∷ date "290200" (theDate 29 2 2000)
+    ∷ date "290223" (noDate 1)
     -- P11: no bytes
     ∷ line "" 1
     ∷ []
 
-abbrev pub holds : Row → Bool
-holds (line text n) = eqb (lineRefusal (ascii text)) n
+abbrev pub Holds : Row → Type 0
+Holds (line text n) = lineRefusal (ascii text) ≡ n
+Holds (latitude f u r) = sidedOf (ascii "N") (ascii "S") (ascii f) (ascii u) (latitudeOf (ascii f)) ≡ r
+Holds (longitude f u r) = sidedOf (ascii "E") (ascii "W") (ascii f) (ascii u) (longitudeOf (ascii f)) ≡ r
+Holds (zone h m r) = zoneTwo (ascii h) (ascii m) ≡ r
+Holds (date f r) = dateSix (ascii f) ≡ r
 
-abbrev pub allHold : List Row → Bool
-allHold [] = true
-allHold (r ∷ rs) = holds r && allHold rs
+abbrev pub AllHold : List Row → Type 0
+AllHold [] = Unit {0}
+AllHold (r ∷ rs) = Holds r × AllHold rs
 
-pub rows-hold : allHold rows ≡ true
-unfolding rows hexDigit hexOf noneOf bodyByte bodyBytes xorFrom xorOf endForm lineForm endGives lineRefusal
-rows-hold = refl
+pub rows-hold : AllHold rows
+unfolding rows same hexDigit hexOf noneOf bodyByte bodyBytes xorFrom xorOf endForm lineForm endGives lineRefusal isDigit digitsFrom digitsOf withinOf joinedOf angleOf latitudeOf longitudeOf letteredOf sidedOf pairAt leapYear daysIn isDate dateAt fullYear dateSix minus bareOf zoneOf zoneAt zoneTwo bind
+rows-hold = (refl, (refl, (refl, (refl, (refl, (refl, (refl, (refl, (refl, (refl, (refl, (refl, (refl, tt)))))))))))))

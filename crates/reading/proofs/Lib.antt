@@ -1,1 +1,2 @@
 pub mod BodyLaws
+pub mod Order

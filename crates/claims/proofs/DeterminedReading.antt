@@ -1,0 +1,231 @@
+-- The field forms, the kinds of field, the readers and the line reader: each contract is an equation with a definition, so any two results
+-- that it permits are equal.
+use Prim.Native.Nat.{ℕ}
+use mathlib.Core.Path.{_≡_}
+use mathlib.Core.List.{List}
+use mathlib.Core.Bool.{Bool}
+use Rattle.forms.specs.Angle.{positionForm, variationForm}
+use Rattle.forms.specs.Got.{gotOf, maybeIntOf, maybeOf}
+use Rattle.forms.specs.Fixed.{fixedOf}
+use Rattle.digits.specs.declared.Num.{Num}
+use Rattle.digits.specs.Means.{num}
+use Rattle.forms.specs.Letters.{emptyWrong, letterOf, unitWrong}
+use Rattle.forms.specs.Number.{belowOf, heightOf, numberOf}
+use Rattle.calendar.specs.Calendar.{isDate}
+use Rattle.calendar.specs.Dates.{dateSix, dateThree}
+use Rattle.calendar.specs.Time.{timeOf}
+use Rattle.calendar.specs.Zone.{zoneFour, zoneTwo}
+use Rattle.masks.specs.Masks.{isPortMask, portMaskForm, satellitesForm, wholeForm}
+use Rattle.masks.specs.Rates.{codeForm, rateForm}
+use Rattle.fields.specs.Places.{fieldIn, fieldsBy}
+use Rattle.kinds.specs.Kinds.{belowForm, exactForm, fixedForm, heightForm, letterForm, numberForm, timeForm, zoneFourForm}
+use Rattle.address.specs.declared.Talker.{Talker}
+use Rattle.navigation.specs.Gga.{ggaOf}
+use Rattle.navigation.specs.Gll.{gllOf}
+use Rattle.navigation.specs.Rmc.{rmcOf}
+use Rattle.navigation.specs.Vtg.{vtgOf}
+use Rattle.navigation.specs.Zda.{zdaOf}
+use Rattle.satellites.specs.Active.{gsaOf}
+use Rattle.satellites.specs.View.{gsvOf}
+use Rattle.commands.specs.Pirea.{pireaOf}
+use Rattle.commands.specs.Pirer.{pirerOf}
+use Rattle.commands.specs.Pirpa.{pirpaOf}
+use Rattle.commands.specs.Pirpr.{pirprOf}
+use Rattle.commands.specs.Pirsa.{pirsaOf}
+use Rattle.commands.specs.Pirsr.{pirsrOf}
+use Rattle.commands.specs.Pirta.{pirtaOf}
+use Rattle.commands.specs.Pirtr.{pirtrOf}
+use Rattle.reading.specs.Lines.{readLine, refusalOf}
+use Rattle.records.specs.declared.Sentence.{Sentence}
+use Rattle.claims.proofs.Determined.{One, one}
+
+-- forms
+pub angle-position : (lat ns lon : List ℕ) (ew : List ℕ) → One (positionForm lat ns lon ew)
+angle-position lat ns lon ew = one
+
+pub angle-variation : (f : List ℕ) (u : List ℕ) → One (variationForm f u)
+angle-variation f u = one
+
+pub fixed : (f : List ℕ) (w : ℕ) (lo : ℕ) (hi : ℕ) → One (maybeOf f (fixedOf w lo hi f))
+fixed f w lo hi = one
+
+pub fixed-exact : (f : List ℕ) (w : ℕ) (lo : ℕ) (hi : ℕ) → One (gotOf (fixedOf w lo hi f))
+fixed-exact f w lo hi = one
+
+pub got-told : (n : Num) → One (gotOf (num n))
+got-told n = one
+
+pub got-maybe : (f : List ℕ) (n : Num) → One (maybeOf f (num n))
+got-maybe f n = one
+
+pub letters-letter : (f : List ℕ) (set : List ℕ) → One (gotOf (letterOf set f))
+letters-letter f set = one
+
+pub letters-unit : (u : List ℕ) (there : Bool) (b : ℕ) → One (unitWrong u there b)
+letters-unit u there b = one
+
+pub letters-empty : (f : List ℕ) → One (emptyWrong f)
+letters-empty f = one
+
+pub number : (f : List ℕ) → One (maybeOf f (numberOf f))
+number f = one
+
+pub number-below : (f : List ℕ) (limit : ℕ) → One (maybeOf f (belowOf limit f))
+number-below f limit = one
+
+pub number-height : (f : List ℕ) → One (maybeIntOf f (heightOf f))
+number-height f = one
+
+-- calendar
+pub date-is-date : (day : ℕ) (month : ℕ) (year : ℕ) → One (isDate day month year)
+date-is-date day month year = one
+
+pub date-six : (f : List ℕ) → One (dateSix f)
+date-six f = one
+
+pub date-three : (day month year : List ℕ) → One (dateThree day month year)
+date-three day month year = one
+
+pub time : (f : List ℕ) → One (maybeOf f (timeOf f))
+time f = one
+
+pub zone-two : (hours : List ℕ) (minutes : List ℕ) → One (zoneTwo hours minutes)
+zone-two hours minutes = one
+
+pub zone-four : (f : List ℕ) → One (maybeIntOf f (zoneFour f))
+zone-four f = one
+
+-- masks
+pub mask-satellites : (f : List ℕ) (width : ℕ) → One (satellitesForm width f)
+mask-satellites f width = one
+
+pub mask-whole : (f : List ℕ) (width : ℕ) → One (wholeForm width f)
+mask-whole f width = one
+
+pub mask-is-port-mask : (v : ℕ) → One (isPortMask v)
+mask-is-port-mask v = one
+
+pub mask-port-mask : (f : List ℕ) → One (portMaskForm f)
+mask-port-mask f = one
+
+pub mask-rate : (f : List ℕ) → One (rateForm f)
+mask-rate f = one
+
+pub mask-code : (f : List ℕ) → One (codeForm f)
+mask-code f = one
+
+-- kinds
+pub time-in : (s : List ℕ) (p : List ℕ) (k : ℕ) → One (timeForm (fieldIn p k s))
+time-in s p k = one
+
+pub number-in : (s : List ℕ) (p : List ℕ) (k : ℕ) → One (numberForm (fieldIn p k s))
+number-in s p k = one
+
+pub below-in : (s : List ℕ) (p : List ℕ) (k : ℕ) (limit : ℕ) → One (belowForm limit (fieldIn p k s))
+below-in s p k limit = one
+
+pub height-in : (s : List ℕ) (p : List ℕ) (k : ℕ) → One (heightForm (fieldIn p k s))
+height-in s p k = one
+
+pub fixed-in : (s : List ℕ) (p : List ℕ) (k : ℕ) (w : ℕ) (lo : ℕ) (hi : ℕ) → One (fixedForm w lo hi (fieldIn p k s))
+fixed-in s p k w lo hi = one
+
+pub exact-in : (s : List ℕ) (p : List ℕ) (k : ℕ) (w : ℕ) (lo : ℕ) (hi : ℕ) → One (exactForm w lo hi (fieldIn p k s))
+exact-in s p k w lo hi = one
+
+pub position-in : (s : List ℕ) (p : List ℕ) (k1 : ℕ) (k2 : ℕ) (k3 : ℕ) (k4 : ℕ) → One (positionForm (fieldIn p k1 s) (fieldIn p k2 s) (fieldIn p k3 s) (fieldIn p k4 s))
+position-in s p k1 k2 k3 k4 = one
+
+pub variation-in : (s : List ℕ) (p : List ℕ) (k1 : ℕ) (k2 : ℕ) → One (variationForm (fieldIn p k1 s) (fieldIn p k2 s))
+variation-in s p k1 k2 = one
+
+pub six-in : (s : List ℕ) (p : List ℕ) (k : ℕ) → One (dateSix (fieldIn p k s))
+six-in s p k = one
+
+pub three-in : (s : List ℕ) (p : List ℕ) (k1 : ℕ) (k2 : ℕ) (k3 : ℕ) → One (dateThree (fieldIn p k1 s) (fieldIn p k2 s) (fieldIn p k3 s))
+three-in s p k1 k2 k3 = one
+
+pub zone-in : (s : List ℕ) (p : List ℕ) (k1 : ℕ) (k2 : ℕ) → One (zoneTwo (fieldIn p k1 s) (fieldIn p k2 s))
+zone-in s p k1 k2 = one
+
+pub four-in : (s : List ℕ) (p : List ℕ) (k : ℕ) → One (zoneFourForm (fieldIn p k s))
+four-in s p k = one
+
+pub satellites-in : (s : List ℕ) (p : List ℕ) (k : ℕ) (width : ℕ) → One (satellitesForm width (fieldIn p k s))
+satellites-in s p k width = one
+
+pub whole-in : (s : List ℕ) (p : List ℕ) (k : ℕ) (width : ℕ) → One (wholeForm width (fieldIn p k s))
+whole-in s p k width = one
+
+pub port-mask-in : (s : List ℕ) (p : List ℕ) (k : ℕ) → One (portMaskForm (fieldIn p k s))
+port-mask-in s p k = one
+
+pub rate-in : (s : List ℕ) (p : List ℕ) (k : ℕ) → One (rateForm (fieldIn p k s))
+rate-in s p k = one
+
+pub code-in : (s : List ℕ) (p : List ℕ) (k : ℕ) → One (codeForm (fieldIn p k s))
+code-in s p k = one
+
+pub letter-in : (s : List ℕ) (p : List ℕ) (k : ℕ) (set : List ℕ) → One (letterForm set (fieldIn p k s))
+letter-in s p k set = one
+
+pub unit-in : (s : List ℕ) (p : List ℕ) (k : ℕ) (there : Bool) (b : ℕ) → One (unitWrong (fieldIn p k s) there b)
+unit-in s p k there b = one
+
+pub empty-in : (s : List ℕ) (p : List ℕ) (k : ℕ) → One (emptyWrong (fieldIn p k s))
+empty-in s p k = one
+
+-- navigation
+pub read-gga : (t : Talker) (n : ℕ) (s : List ℕ) (p : List ℕ) → One (ggaOf t n (fieldsBy p s))
+read-gga t n s p = one
+
+pub read-gll : (t : Talker) (n : ℕ) (s : List ℕ) (p : List ℕ) → One (gllOf t n (fieldsBy p s))
+read-gll t n s p = one
+
+pub read-rmc : (t : Talker) (n : ℕ) (s : List ℕ) (p : List ℕ) → One (rmcOf t n (fieldsBy p s))
+read-rmc t n s p = one
+
+pub read-vtg : (t : Talker) (n : ℕ) (s : List ℕ) (p : List ℕ) → One (vtgOf t n (fieldsBy p s))
+read-vtg t n s p = one
+
+pub read-zda : (t : Talker) (n : ℕ) (s : List ℕ) (p : List ℕ) → One (zdaOf t n (fieldsBy p s))
+read-zda t n s p = one
+
+-- satellites
+pub read-gsa : (t : Talker) (n : ℕ) (s : List ℕ) (p : List ℕ) → One (gsaOf t n (fieldsBy p s))
+read-gsa t n s p = one
+
+pub read-gsv : (t : Talker) (n : ℕ) (s : List ℕ) (p : List ℕ) → One (gsvOf t n (fieldsBy p s))
+read-gsv t n s p = one
+
+-- commands
+pub read-pirea : (n : ℕ) (s : List ℕ) (p : List ℕ) → One (pireaOf n (fieldsBy p s))
+read-pirea n s p = one
+
+pub read-pirer : (n : ℕ) (s : List ℕ) (p : List ℕ) → One (pirerOf n (fieldsBy p s))
+read-pirer n s p = one
+
+pub read-pirpa : (n : ℕ) (s : List ℕ) (p : List ℕ) → One (pirpaOf n (fieldsBy p s))
+read-pirpa n s p = one
+
+pub read-pirpr : (n : ℕ) (s : List ℕ) (p : List ℕ) → One (pirprOf n (fieldsBy p s))
+read-pirpr n s p = one
+
+pub read-pirsa : (n : ℕ) (s : List ℕ) (p : List ℕ) → One (pirsaOf n (fieldsBy p s))
+read-pirsa n s p = one
+
+pub read-pirsr : (n : ℕ) (s : List ℕ) (p : List ℕ) → One (pirsrOf n (fieldsBy p s))
+read-pirsr n s p = one
+
+pub read-pirta : (n : ℕ) (s : List ℕ) (p : List ℕ) → One (pirtaOf n (fieldsBy p s))
+read-pirta n s p = one
+
+pub read-pirtr : (n : ℕ) (s : List ℕ) (p : List ℕ) → One (pirtrOf n (fieldsBy p s))
+read-pirtr n s p = one
+
+-- reading
+pub read-line : (line : List ℕ) → One (readLine line)
+read-line line = one
+
+pub refusal-of : (sentence : Sentence) → One (refusalOf sentence)
+refusal-of sentence = one
