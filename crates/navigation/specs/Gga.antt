@@ -14,6 +14,7 @@ use Rattle.records.specs.declared.Sentence.the-variants.{Gga}
 use Rattle.records.specs.Keep.{keptOf, numberOf, placedOf, signedOf}
 use Rattle.records.specs.Wrong.{after, firstWrong}
 use Rattle.records.specs.Answers.{answered, counted}
+use Rattle.navigation.specs.Units.{unit}
 
 unfoldable pub ggaFrom : Talker → Got → Position → Got → Got → Got → GotInt → ℕ → GotInt → ℕ → Got → Got → Sentence
 ggaFrom t time place quality satellites hdop altitude m10 geoid m12 age station =
@@ -31,8 +32,8 @@ ggaOf t n field =
     (fixedForm 2 0 99 (field 7))
     (numberForm (field 8))
     (heightForm (field 9))
-    (unitWrong (field 10) (heightForm (field 9) .there) 77)
+    (unitWrong (field 10) (heightForm (field 9) .there) (unit "M"))
     (heightForm (field 11))
-    (unitWrong (field 12) (heightForm (field 11) .there) 77)
+    (unitWrong (field 12) (heightForm (field 11) .there) (unit "M"))
     (numberForm (field 13))
     (fixedForm 4 0 1023 (field 14)))

@@ -11,6 +11,7 @@ use Rattle.records.specs.declared.Sentence.the-variants.{Vtg}
 use Rattle.records.specs.Keep.{kmhOf, knotsOf, numberOf}
 use Rattle.records.specs.Wrong.{after, firstWrong}
 use Rattle.records.specs.Answers.{answered, counted}
+use Rattle.navigation.specs.Units.{unit}
 
 unfoldable pub vtgFrom : Talker → Got → ℕ → Got → ℕ → Got → ℕ → Got → ℕ → Got → Sentence
 vtgFrom t course t2 magnetic m4 speed n6 metric k8 mode =
@@ -23,11 +24,11 @@ vtgOf t n field =
     counted n 9
     (vtgFrom t
     (belowForm 360000 (field 1))
-    (unitWrong (field 2) (belowForm 360000 (field 1) .there) 84)
+    (unitWrong (field 2) (belowForm 360000 (field 1) .there) (unit "T"))
     (belowForm 360000 (field 3))
-    (unitWrong (field 4) (belowForm 360000 (field 3) .there) 77)
+    (unitWrong (field 4) (belowForm 360000 (field 3) .there) (unit "M"))
     (numberForm (field 5))
-    (unitWrong (field 6) (numberForm (field 5) .there) 78)
+    (unitWrong (field 6) (numberForm (field 5) .there) (unit "N"))
     (numberForm (field 7))
-    (unitWrong (field 8) (numberForm (field 7) .there) 75)
+    (unitWrong (field 8) (numberForm (field 7) .there) (unit "K"))
     (letterForm (ascii "ADEMSN") (field 9)))
