@@ -1,9 +1,10 @@
 //! The proved functions against the same work written by hand in Rust, over one log.
 
 mod log;
-mod plain;
 mod rattle;
+mod records;
 
+use bench::plain;
 use std::time::Instant;
 
 const RUNS: usize = 5;
@@ -165,9 +166,19 @@ fn main() {
     show("finder over a slice", race(&|| all_places(&log, rattle::next_line), &|| all_places(&log, plain::next_line)));
     show("finder fed byte by byte, a call a byte", race(&|| all_fed_rattle(&log), &|| all_fed_by_call(&log)));
     show("finder fed byte by byte, Rust inlined", race(&|| all_fed_rattle(&log), &|| all_fed_inlined(&log)));
+    let mixed = records::mixed();
+    records::agree(&lines);
+    records::agree(&cut(&mixed));
+    let race_reading = |lines: &[&[u8]]| race(&|| records::all_by_rattle(lines), &|| records::all_by_rust(lines));
+    show("line read to its record", race_reading(&lines));
+    for (what, lines) in records::chosen(&mixed) {
+        row(&what, lines.iter().map(|l| l.len()).sum(), lines.len(), race_reading(&lines));
+    }
 }
 
 #[test]
 fn both_sides_agree() {
-    agree(&log::log(7, 1 << 18));
+    let log = log::log(7, 1 << 18);
+    agree(&log);
+    records::agree(&cut(&log));
 }

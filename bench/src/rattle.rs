@@ -6,6 +6,7 @@ extern "C" {
     fn castanwel_next_line(s: *const u8, s_len: usize, at: usize, start: *mut usize, end: *mut usize) -> bool;
     fn castanwel_places(body: *const u8, body_len: usize, ends: *mut usize, ends_len: usize) -> usize;
     fn castanwel_feed(held: usize, b: u8, line: *mut usize) -> usize;
+    fn castanwel_read(line: *const u8, line_len: usize, field: *mut usize) -> u8;
 }
 
 /// 0 where `line` is a line, 1 where the line rule fails, 2 where the digits differ.
@@ -16,6 +17,13 @@ pub fn line_refusal(line: &[u8]) -> u8 {
 /// How many fields a body has; where each ends is stored in `ends`, as far as there is room.
 pub fn places(body: &[u8], ends: &mut [usize]) -> usize {
     unsafe { castanwel_places(body.as_ptr(), body.len(), ends.as_mut_ptr(), ends.len()) }
+}
+
+/// The number and the field of the refusal of a line that is read to its record; 0 and 0 where it reads.
+pub fn read(line: &[u8]) -> (u8, usize) {
+    let mut field = 0;
+    let no = unsafe { castanwel_read(line.as_ptr(), line.len(), &mut field) };
+    (no, field)
 }
 
 /// Where the first line from `at` on lies, or `None`.

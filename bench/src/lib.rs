@@ -1,0 +1,4 @@
+//! The work of the proved functions, written by hand in Rust.
+
+pub mod plain;
+pub mod read;
