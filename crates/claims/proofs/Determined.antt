@@ -1,13 +1,18 @@
 -- For each public function: any two results that its contract permits are equal. Where the contract is an equation with a definition,
 -- both are what the definition says; of a part of the caller's slice its memory, place and bytes are fixed.
 use Prim.Native.Nat.{ℕ, _+_, _%_}
-use mathlib.Core.Path.{_≡_, sym, _∙_}
+use mathlib.Core.Path.{_≡_, refl, sym, _∙_, ap}
 use mathlib.Core.List.{List}
 use mathlib.Core.Bool.{Bool}
+use mathlib.Core.Option.{Option, none, some}
 use lib.ListN.{drop}
 use denote.Ref.{RefT, now}
 use Rattle.digits.specs.Hex.{hexDigit, hexOf}
 use Rattle.digits.specs.Same.{same}
+use Rattle.digits.specs.Decimal.{digitsOf, findIn}
+use Rattle.digits.specs.Means.{num}
+use Rattle.digits.specs.declared.Num.{Num}
+use Rattle.digits.specs.declared.Num.the-variants.{Is, Bad}
 use Rattle.line.specs.Line.{lineRefusal}
 use Rattle.lines.specs.Cut.{lineWidth}
 use Rattle.address.specs.declared.Address.{Address}
@@ -17,7 +22,7 @@ use Rattle.fields.specs.Part.{PartAt}
 use Rattle.fields.specs.FieldN.{addressRefusal, fieldNo, fieldBytes, fieldPlace}
 use Rattle.finder.specs.declared.Fed.{Fed}
 use Rattle.finder.specs.declared.Found.{Found}
-use Rattle.finder.specs.Finder.{fedOf}
+use Rattle.finder.specs.Finder.{endsHere, fedOf, heldNext}
 use Rattle.finder.specs.Slice.{foundAt}
 
 -- Two values that are what a definition says.
@@ -40,6 +45,20 @@ pub record SamePart (r s : RefT (List ℕ)) : Type 0 where
 part : (l : RefT (List ℕ)) (at : ℕ) (bytes : List ℕ) (r s : RefT (List ℕ)) → PartAt l at bytes r → PartAt l at bytes s → SamePart r s
 part l at bytes r s p q = record { block = equation (p .block) (q .block); place = equation (p .place) (q .place); bytes = equation (p .holds) (q .holds) }
 
+-- Two answers of one meaning, a number or none.
+abbrev num-of : Option ℕ → Num
+num-of (some n) = Is n
+num-of none = Bad
+
+num-one : (r s : Num) → num r ≡ num s → r ≡ s
+num-one (Is m) (Is n) e = ap num-of e
+num-one (Is m) Bad e = ap num-of e
+num-one Bad (Is n) e = ap num-of e
+num-one Bad Bad e = refl
+
+pub read : {x : Option ℕ} (r s : Num) → num r ≡ x → num s ≡ x → r ≡ s
+read r s e f = num-one r s (equation e f)
+
 -- digits
 pub is-hex : (b : ℕ) (r s : Bool) → r ≡ hexDigit b → s ≡ hexDigit b → r ≡ s
 is-hex b r s = equation
@@ -49,6 +68,12 @@ hex-of n r s = equation
 
 pub same-bytes : (a b : List ℕ) (r s : Bool) → r ≡ same a b → s ≡ same a b → r ≡ s
 same-bytes a b r s = equation
+
+pub find : (l : List ℕ) (b r s : ℕ) → r ≡ findIn b l → s ≡ findIn b l → r ≡ s
+find l b r s = equation
+
+pub digits : (l : List ℕ) (lo hi : ℕ) (r s : Num) → num r ≡ digitsOf lo hi l → num s ≡ digitsOf lo hi l → r ≡ s
+digits l lo hi = read
 
 -- line, lines
 pub line-refusal : (l : List ℕ) (r s : ℕ) → r ≡ lineRefusal l → s ≡ lineRefusal l → r ≡ s
@@ -83,3 +108,10 @@ feed held b r s = equation
 
 pub next-line : (l : List ℕ) (at : ℕ) (r s : Found) → r ≡ foundAt l at → s ≡ foundAt l at → r ≡ s
 next-line l at r s = equation
+
+-- host: each exported function hands on the answer of the function above, its struct taken apart into lent numbers.
+pub host-next-line : (l : List ℕ) (at : ℕ) → One (foundAt l at .line) × One (foundAt l at .start) × One (foundAt l at .end)
+host-next-line l at = (one, one, one)
+
+pub host-feed : (held b : ℕ) → One (heldNext held b) × One (endsHere held b)
+host-feed held b = (one, one)

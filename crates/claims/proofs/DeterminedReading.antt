@@ -5,7 +5,7 @@ use mathlib.Core.Path.{_≡_}
 use mathlib.Core.List.{List}
 use mathlib.Core.Bool.{Bool}
 use Rattle.forms.specs.Angle.{positionForm, variationForm}
-use Rattle.forms.specs.Got.{gotOf, maybeIntOf, maybeOf}
+use Rattle.forms.specs.Got.{gotOf, maybeIntOf, maybeOf, withinOf}
 use Rattle.forms.specs.Fixed.{fixedOf}
 use Rattle.digits.specs.declared.Num.{Num}
 use Rattle.digits.specs.Means.{num}
@@ -15,7 +15,7 @@ use Rattle.calendar.specs.Calendar.{isDate}
 use Rattle.calendar.specs.Dates.{dateSix, dateThree}
 use Rattle.calendar.specs.Time.{timeOf}
 use Rattle.calendar.specs.Zone.{zoneFour, zoneTwo}
-use Rattle.masks.specs.Masks.{isPortMask, portMaskForm, satellitesForm, wholeForm}
+use Rattle.masks.specs.Masks.{hexDigitsOf, isPortMask, portMaskForm, satellitesForm, wholeForm}
 use Rattle.masks.specs.Rates.{codeForm, rateForm}
 use Rattle.fields.specs.Places.{fieldIn, fieldsBy}
 use Rattle.kinds.specs.Kinds.{belowForm, exactForm, fixedForm, heightForm, letterForm, numberForm, timeForm, zoneFourForm}
@@ -37,9 +37,19 @@ use Rattle.commands.specs.Pirta.{pirtaOf}
 use Rattle.commands.specs.Pirtr.{pirtrOf}
 use Rattle.reading.specs.Lines.{readLine, refusalOf}
 use Rattle.records.specs.declared.Sentence.{Sentence}
-use Rattle.claims.proofs.Determined.{One, one}
+use Rattle.records.specs.Keep.{datedOf, keptIf, keptOf, kmhOf, knotsOf, neededInt, neededWrong, numberOf as keptNumber, placedOf, signedOf, zonedIf, zonedOf}
+use Rattle.records.specs.Blank.{aloneOf, blankEntry, blankGsa, blankGsv}
+use Rattle.records.specs.Wrong.{nearOf}
+use Rattle.forms.specs.declared.got.Got.{Got}
+use Rattle.forms.specs.declared.got.GotInt.{GotInt}
+use Rattle.forms.specs.declared.got.Position.{Position}
+use Rattle.calendar.specs.declared.date.GotDate.{GotDate}
+use Rattle.claims.proofs.Determined.{One, one, read}
 
 -- forms
+pub got-within : (n : Num) (lo : ℕ) (hi : ℕ) (r s : Num) → num r ≡ withinOf lo hi (num n) → num s ≡ withinOf lo hi (num n) → r ≡ s
+got-within n lo hi = read
+
 pub angle-position : (lat ns lon : List ℕ) (ew : List ℕ) → One (positionForm lat ns lon ew)
 angle-position lat ns lon ew = one
 
@@ -96,6 +106,9 @@ pub zone-four : (f : List ℕ) → One (maybeIntOf f (zoneFour f))
 zone-four f = one
 
 -- masks
+pub mask-hex-digits : (f : List ℕ) (lo : ℕ) (hi : ℕ) (r s : Num) → num r ≡ hexDigitsOf lo hi f → num s ≡ hexDigitsOf lo hi f → r ≡ s
+mask-hex-digits f lo hi = read
+
 pub mask-satellites : (f : List ℕ) (width : ℕ) → One (satellitesForm width f)
 mask-satellites f width = one
 
@@ -113,6 +126,58 @@ mask-rate f = one
 
 pub mask-code : (f : List ℕ) → One (codeForm f)
 mask-code f = one
+
+-- records
+pub kept : (g : Got) → One (keptOf g)
+kept g = one
+
+pub kept-number : (g : Got) → One (keptNumber g)
+kept-number g = one
+
+pub kept-knots : (g : Got) → One (knotsOf g)
+kept-knots g = one
+
+pub kept-kmh : (g : Got) → One (kmhOf g)
+kept-kmh g = one
+
+pub kept-signed : (g : GotInt) → One (signedOf g)
+kept-signed g = one
+
+pub kept-placed : (p : Position) → One (placedOf p)
+kept-placed p = one
+
+pub kept-dated : (d : GotDate) → One (datedOf d)
+kept-dated d = one
+
+pub kept-zoned : (g : GotInt) → One (zonedOf g)
+kept-zoned g = one
+
+pub kept-near : (n wrong rest : ℕ) → One (nearOf n wrong rest)
+kept-near n wrong rest = one
+
+pub kept-if : (there : Bool) (g : Got) → One (keptIf there g)
+kept-if there g = one
+
+pub kept-zoned-if : (there : Bool) (g : GotInt) → One (zonedIf there g)
+kept-zoned-if there g = one
+
+pub kept-needed : (needed : Bool) (g : Got) → One (neededWrong needed g)
+kept-needed needed g = one
+
+pub kept-needed-int : (needed : Bool) (g : GotInt) → One (neededInt needed g)
+kept-needed-int needed g = one
+
+pub blank-entry : One blankEntry
+blank-entry = one
+
+pub blank-gsa : One blankGsa
+blank-gsa = one
+
+pub blank-gsv : One blankGsv
+blank-gsv = one
+
+pub blank-alone : (sentence : Sentence) → One (aloneOf sentence)
+blank-alone sentence = one
 
 -- kinds
 pub time-in : (s : List ℕ) (p : List ℕ) (k : ℕ) → One (timeForm (fieldIn p k s))
@@ -229,3 +294,7 @@ read-line line = one
 
 pub refusal-of : (sentence : Sentence) → One (refusalOf sentence)
 refusal-of sentence = one
+
+-- host
+pub host-read : (line : List ℕ) → One (refusalOf (readLine line .sentence) .no) × One (refusalOf (readLine line .sentence) .field)
+host-read line = (one, one)

@@ -1,5 +1,4 @@
 -- Blank records: all values missing and zero.
-use mathlib.Core.List.{List, [], _∷_}
 use mathlib.Core.Bool.{false}
 use Rattle.records.specs.declared.Entry.{Entry}
 use Rattle.records.specs.declared.Gsa.{Gsa}

@@ -1,7 +1,4 @@
 // A row of the listing: the number of a line, its address or `-`, and the answer.
-mod dump;
-mod text;
-mod value;
 
 use reading::Refusal;
 use records::Reading;

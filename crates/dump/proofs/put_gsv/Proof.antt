@@ -4,8 +4,8 @@ use mathlib.Core.Path.{_≡_, refl}
 use native.Mathlib.Omega.{arith}
 use borrow.Author.Needs.{needs}
 use lib.ListN.{length}
-use Rattle.rows.proofs.dump.put_gsv.Statement.{statement}
-use Rattle.rows.proofs.dump.put_gsv.Tie as tie
+use Rattle.dump.proofs.put_gsv.Statement.{statement}
+use Rattle.dump.proofs.put_gsv.Tie as tie
 
 abbrev Inv-loop : tie.InvT-loop
 Inv-loop out₀ at a0 a1 a2 a₀ entries i₀ out a i = (i ≤ 4) × (length out ≡ length out₀)

@@ -1,5 +1,4 @@
 // The numbers of a record.
-use crate::value;
 use records::CodeTold;
 use records::DatumAsked;
 use records::DatumTold;
@@ -17,6 +16,7 @@ use records::Rmc;
 use records::Sentence;
 use records::Vtg;
 use records::Zda;
+use text::value;
 
 fn put_fix(out: &mut [u8], at: usize, r: Gga) -> usize {
     let time = r.time;

@@ -1,8 +1,8 @@
 -- `put_int` is safe: a negative number is negated in 64 bits, where it fits.
-use Rattle.rows.proofs.Signs.{widened, negated, negated-plain, kept-plain}
+use Rattle.text.proofs.Signs.{widened, negated, negated-plain, kept-plain}
 use borrow.Author.Needs.{needs}
-use Rattle.rows.proofs.value.put_int.Statement.{statement}
-use Rattle.rows.proofs.value.put_int.Tie as tie
+use Rattle.text.proofs.value.put_int.Statement.{statement}
+use Rattle.text.proofs.value.put_int.Tie as tie
 
 cast-put-number : tie.Need-cast-put-number
 cast-put-number c = widened (c .before .before .before .before .before .before .before .before .args .v) (search needs)

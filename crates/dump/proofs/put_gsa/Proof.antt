@@ -4,8 +4,8 @@ use mathlib.Core.Path.{_≡_, refl}
 use native.Mathlib.Omega.{arith}
 use borrow.Author.Needs.{needs}
 use lib.ListN.{length}
-use Rattle.rows.proofs.dump.put_gsa.Statement.{statement}
-use Rattle.rows.proofs.dump.put_gsa.Tie as tie
+use Rattle.dump.proofs.put_gsa.Statement.{statement}
+use Rattle.dump.proofs.put_gsa.Tie as tie
 
 abbrev Inv-loop : tie.InvT-loop
 Inv-loop out₀ at r a0 a₀ satellites i₀ out a i = (i ≤ 12) × (length out ≡ length out₀)

@@ -1,4 +1,5 @@
-// Bytes and numbers as text.
+// Bytes, numbers and the values of a record as text.
+pub mod value;
 
 // Puts the bytes of `s` into `out` from place `at` on, as far as there is room, and answers the
 // place after them.

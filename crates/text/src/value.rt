@@ -1,5 +1,4 @@
 // The values of a record as numbers, in the order of docs/LAYOUT.md.
-use crate::text;
 use records::values::Date;
 use records::values::Kmh;
 use records::values::Knots;
@@ -10,26 +9,26 @@ use records::values::Signed;
 use records::values::Zone;
 
 pub fn put_value(out: &mut [u8], at: usize, v: u32) -> usize {
-    let a = text::put_bytes(out, at, b" ");
-    text::put_number(out, a, v as u64)
+    let a = crate::put_bytes(out, at, b" ");
+    crate::put_number(out, a, v as u64)
 }
 
 // A number with its sign.
 pub fn put_int(out: &mut [u8], at: usize, v: i32) -> usize {
     if v < 0 {
-        let a = text::put_bytes(out, at, b" -");
-        return text::put_number(out, a, (-(v as i64)) as u64);
+        let a = crate::put_bytes(out, at, b" -");
+        return crate::put_number(out, a, (-(v as i64)) as u64);
     }
-    let a = text::put_bytes(out, at, b" ");
-    text::put_number(out, a, v as u64)
+    let a = crate::put_bytes(out, at, b" ");
+    crate::put_number(out, a, v as u64)
 }
 
 // 1 where a value is there, 0 where it is missing.
 fn put_mark(out: &mut [u8], at: usize, there: bool) -> usize {
     if there {
-        return text::put_bytes(out, at, b" 1");
+        return crate::put_bytes(out, at, b" 1");
     }
-    text::put_bytes(out, at, b" 0")
+    crate::put_bytes(out, at, b" 0")
 }
 
 pub fn put_maybe(out: &mut [u8], at: usize, v: Maybe) -> usize {
