@@ -16,6 +16,7 @@ use Rattle.digits.proofs.Options.{through, nothing}
 use Rattle.digits.proofs.DigitSides.{fixed-are}
 use Rattle.forms.specs.declared.got.GotInt.{GotInt}
 use Rattle.forms.specs.Got.{pick, missingInt, gotIntOf, withinOf}
+use Rattle.forms.specs.Sign.{signText}
 use Rattle.forms.proofs.SignLaws.{size}
 use Rattle.forms.proofs.RangeLaws.{within-yes, within-range}
 use Rattle.calendar.specs.Pairs.{pairAt}
@@ -101,9 +102,6 @@ two-range h m = go (eqb (length h) 0) (eqb (length m) 0)
     go false b = at-le 2 (minus h) (digitsOf 2 2 (bareOf h)) (digitsOf 2 2 m) _ refl
 
 -- The minus of a zone that is negative.
-abbrev pub signText : ℤ → List ℕ
-signText (pos n) = []
-signText (negsuc n) = 45 ∷ []
 
 sign-is : (s : Bool) (n : ℕ) (z : ℤ) → zoneOf s n ≡ some z → signText z ≡ cond s (45 ∷ []) []
 unfolding zoneOf

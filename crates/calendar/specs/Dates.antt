@@ -1,11 +1,11 @@
 -- The date's fields: RMC `ddmmyy`, yy 80 to 99 meaning 19yy, may be empty; ZDA day 01-31, month 01-12, four-digit year, all or none.
-use Prim.Native.Nat.{ℕ, _+_}
-use mathlib.Core.List.{List}
+use Prim.Native.Nat.{ℕ, _+_, _%_}
+use mathlib.Core.List.{List, _++_}
 use mathlib.Core.Bool.{true, false, cond}
 use mathlib.Core.Option.{Option, none, some, Option·map}
 use lib.Dec.{ltb, eqb}
 use lib.ListN.{length}
-use Rattle.digits.specs.Decimal.{digitsOf}
+use Rattle.digits.specs.Decimal.{digitsOf, printFixed}
 use Rattle.forms.specs.Got.{pick, withinOf}
 use Rattle.calendar.specs.declared.date.GotDate.{GotDate}
 use Rattle.calendar.specs.Pairs.{pairAt}
@@ -41,3 +41,7 @@ unfoldable pub dateThree : List ℕ → List ℕ → List ℕ → GotDate
 dateThree d m y =
     pick (eqb (length d) 0) (noDate (cond (eqb (length m) 0) (cond (eqb (length y) 0) 0 3) 2))
     (dateAt 1 2 3 (withinOf 1 31 (digitsOf 2 2 d)) (withinOf 1 12 (digitsOf 2 2 m)) (digitsOf 4 4 y))
+
+-- The six digits of a date.
+abbrev pub sixText : ℕ → ℕ → ℕ → List ℕ
+sixText d m y = printFixed 2 d ++ (printFixed 2 m ++ printFixed 2 (y % 100))

@@ -1,10 +1,11 @@
 -- Time `hhmmss.ss`, hours 00 to 23, minutes and seconds 00 to 59, two fraction digits. Held in hundredths of a second.
-use Prim.Native.Nat.{ℕ, _+_, _*_}
-use mathlib.Core.List.{List}
+use Prim.Native.Nat.{ℕ, _+_, _*_, _/_, _%_}
+use mathlib.Core.List.{List, _∷_, _++_}
 use mathlib.Core.Bool.{Bool, cond, _&&_}
 use mathlib.Core.Option.{Option, none, some, bind}
 use lib.Dec.{leb, eqb}
 use lib.ListN.{length, getD}
+use Rattle.digits.specs.Decimal.{printFixed}
 use Rattle.calendar.specs.Pairs.{pairAt}
 
 -- Whether a day has the second s of minute m of hour h.
@@ -24,3 +25,7 @@ timeOf f =
     cond (eqb (length f) 9 && eqb (getD f 6 0) 46)
     (clockOf (pairAt 0 f) (pairAt 2 f) (pairAt 4 f) (pairAt 7 f))
     none
+
+-- A time in hundredths of a second, written so.
+abbrev pub clockText : ℕ → List ℕ
+clockText v = printFixed 2 (v / 360000) ++ (printFixed 2 (v / 6000 % 60) ++ (printFixed 2 (v / 100 % 60) ++ (46 ∷ printFixed 2 (v % 100))))

@@ -1,15 +1,16 @@
 -- Zone: hours 00 to 13 with optional minus (no plus), minutes 00 to 59; held as signed minutes, the sign of the hours covering both. Minus
 -- with zero minutes in all is refused. Both or none.
-use Prim.Native.Nat.{ℕ, _+_, _*_}
-use mathlib.Core.List.{List}
+use Prim.Native.Nat.{ℕ, _+_, _*_, _/_, _%_}
+use mathlib.Core.List.{List, _++_}
 use mathlib.Core.Bool.{Bool, true, false, cond}
 use mathlib.Core.Option.{Option, none, some, bind}
 use lib.Dec.{eqb}
-use lib.IntN.{ℤ, pos, negℤ}
+use lib.IntN.{ℤ, pos, negℤ, natAbs}
 use lib.ListN.{length, getD, drop}
-use Rattle.digits.specs.Decimal.{digitsOf}
+use Rattle.digits.specs.Decimal.{digitsOf, printFixed}
 use Rattle.forms.specs.declared.got.GotInt.{GotInt}
 use Rattle.forms.specs.Got.{pick, missingInt, withinOf}
+use Rattle.forms.specs.Sign.{signText}
 use Rattle.calendar.specs.Pairs.{pairAt}
 
 -- Whether a field begins with a minus.
@@ -52,3 +53,13 @@ zoneFour f =
     cond (eqb (length (bareOf f)) 4)
     (bind (withinOf 0 13 (pairAt 0 (bareOf f))) λ h. bind (withinOf 0 59 (pairAt 2 (bareOf f))) λ m. zoneOf (minus f) (h * 60 + m))
     none
+
+-- The hours with their sign, and the minutes, of a zone in signed minutes; and both as one field.
+abbrev pub hoursText : ℤ → List ℕ
+hoursText z = signText z ++ printFixed 2 (natAbs z / 60)
+
+abbrev pub minutesText : ℤ → List ℕ
+minutesText z = printFixed 2 (natAbs z % 60)
+
+abbrev pub fourText : ℤ → List ℕ
+fourText z = signText z ++ (printFixed 2 (natAbs z / 60) ++ printFixed 2 (natAbs z % 60))

@@ -1,7 +1,7 @@
 -- The field forms, each from both sides: what reads has this shape and value, and this shape reads. The arguments stand in the files named.
-use Prim.Native.Nat.{ℕ, _+_, _-_, _*_, _/_, _%_, _^_, _≤_, _<_}
+use Prim.Native.Nat.{ℕ, _-_, _^_, _≤_, _<_}
 use mathlib.Core.Path.{_≡_}
-use mathlib.Core.List.{List, [], _∷_, _++_}
+use mathlib.Core.List.{List, [], _∷_}
 use mathlib.Core.Bool.{Bool, true, false}
 use mathlib.Core.Option.{some}
 use mathlib.Core.Logic.{_⊎_}
@@ -20,8 +20,8 @@ use Rattle.forms.proofs.NumberSides as NumberSides
 use Rattle.forms.proofs.PositionSides as PositionSides
 use Rattle.calendar.specs.Time.{timeOf}
 use Rattle.calendar.specs.Calendar.{isDate}
-use Rattle.calendar.specs.Dates.{theDate, dateSix, dateThree}
-use Rattle.calendar.specs.Zone.{zoneTwo, zoneFour}
+use Rattle.calendar.specs.Dates.{theDate, dateSix, dateThree, sixText}
+use Rattle.calendar.specs.Zone.{zoneTwo, zoneFour, hoursText, minutesText, fourText}
 use Rattle.calendar.proofs.TimeLaws as TimeLaws
 use Rattle.calendar.proofs.CalendarLaws as CalendarLaws
 use Rattle.calendar.proofs.ZoneLaws as ZoneLaws
@@ -103,10 +103,10 @@ time-reads = TimeLaws.text-time
 
 -- A date of the calendar from 1980 to 2079, in RMC's six digits and in ZDA's three fields.
 pub six-is : (f : List ℕ) (d m y : ℕ) → dateSix f ≡ theDate d m y
-    → (isDate d m y ≡ true) × (f ≡ printFixed 2 d ++ (printFixed 2 m ++ printFixed 2 (y % 100)))
+    → (isDate d m y ≡ true) × (f ≡ sixText d m y)
 six-is = CalendarLaws.six-text
 
-pub six-reads : (d m y : ℕ) → isDate d m y ≡ true → dateSix (printFixed 2 d ++ (printFixed 2 m ++ printFixed 2 (y % 100))) ≡ theDate d m y
+pub six-reads : (d m y : ℕ) → isDate d m y ≡ true → dateSix (sixText d m y) ≡ theDate d m y
 six-reads = CalendarLaws.text-six
 
 pub three-is : (a b c : List ℕ) (d m y : ℕ) → dateThree a b c ≡ theDate d m y
@@ -118,19 +118,19 @@ three-reads = CalendarLaws.text-three
 
 -- A zone in signed minutes, up to 839, in ZDA's two fields and in PIRTR's one; the sign of -00 hours stays.
 pub zone-two-is : (h m : List ℕ) (z : ℤ) → zoneTwo h m ≡ ZoneLaws.theInt z
-    → (natAbs z ≤ 839) × ((h ≡ ZoneLaws.signText z ++ printFixed 2 (natAbs z / 60)) × (m ≡ printFixed 2 (natAbs z % 60)))
+    → (natAbs z ≤ 839) × ((h ≡ hoursText z) × (m ≡ minutesText z))
 zone-two-is = ZoneLaws.two-text
 
 pub zone-two-reads : (z : ℤ) → natAbs z ≤ 839
-    → zoneTwo (ZoneLaws.signText z ++ printFixed 2 (natAbs z / 60)) (printFixed 2 (natAbs z % 60)) ≡ ZoneLaws.theInt z
+    → zoneTwo (hoursText z) (minutesText z) ≡ ZoneLaws.theInt z
 zone-two-reads = ZoneLaws.text-two
 
 pub zone-four-is : (f : List ℕ) (z : ℤ) → zoneFour f ≡ some z
-    → (natAbs z ≤ 839) × (f ≡ ZoneLaws.signText z ++ (printFixed 2 (natAbs z / 60) ++ printFixed 2 (natAbs z % 60)))
+    → (natAbs z ≤ 839) × (f ≡ fourText z)
 zone-four-is = ZoneLaws.four-text
 
 pub zone-four-reads : (z : ℤ) → natAbs z ≤ 839
-    → zoneFour (ZoneLaws.signText z ++ (printFixed 2 (natAbs z / 60) ++ printFixed 2 (natAbs z % 60))) ≡ some z
+    → zoneFour (fourText z) ≡ some z
 zone-four-reads = ZoneLaws.text-four
 
 -- A port's mask: four capital hex digits, bits 7 and 12 to 15 zero.

@@ -15,11 +15,7 @@ use Rattle.digits.proofs.Bools.{and-left, and-right}
 use Rattle.digits.proofs.DecimalLaws.{length-fixed, fixed-rt}
 use Rattle.digits.proofs.Options.{through, nothing}
 use Rattle.digits.proofs.DigitSides.{fixed-are}
-use Rattle.forms.specs.Angle.{joinedOf, angleOf}
-
--- w digits of degrees, two of minutes, a point and four more, of a value in ten-thousandths of a minute.
-abbrev pub angleText : ℕ → ℕ → List ℕ
-angleText w v = printFixed w (v / 600000) ++ (printFixed 2 (v / 10000 % 60) ++ (46 ∷ printFixed 4 (v % 10000)))
+use Rattle.forms.specs.Angle.{joinedOf, angleOf, angleText}
 
 -- A field cut at its places.
 cut : (w : ℕ) (f : List ℕ) → length f ≡ w + 7 → getD f (w + 2) 0 ≡ 46 → f ≡ take w f ++ (take 2 (drop w f) ++ (46 ∷ drop (w + 3) f))

@@ -18,10 +18,10 @@ use Rattle.digits.proofs.DecimalLaws.{length-fixed}
 use Rattle.forms.specs.Got.{pick, gotIntOf, missingInt}
 use Rattle.forms.specs.Sign.{signed}
 use Rattle.forms.specs.Number.{belowOf}
-use Rattle.forms.specs.Angle.{angleOf, latitudeOf, longitudeOf, letteredOf, sidedOf, wrongInt, refusedAt, bothOf, positionForm, variationForm}
+use Rattle.forms.specs.Angle.{angleOf, angleText, latitudeOf, longitudeOf, letteredOf, sidedOf, wrongInt, refusedAt, bothOf, positionForm, variationForm}
 use Rattle.forms.specs.declared.got.GotInt.{GotInt}
 use Rattle.forms.specs.declared.got.Position.{Position}
-use Rattle.forms.proofs.AngleSides.{angleText, angle-is, angle-reads}
+use Rattle.forms.proofs.AngleSides.{angle-is, angle-reads}
 use Rattle.forms.proofs.NumberSides.{Written, not-empty, below-is, below-reads}
 
 -- A value with the first of its two letters, or negated with the second.

@@ -1,13 +1,13 @@
 -- Positions: latitude and longitude with their letters; and the magnetic variation.
-use Prim.Native.Nat.{ℕ, _+_, _*_}
-use mathlib.Core.List.{List}
+use Prim.Native.Nat.{ℕ, _+_, _*_, _/_, _%_}
+use mathlib.Core.List.{List, _∷_, _++_}
 use mathlib.Core.Bool.{Bool, true, false, cond, _&&_, _||_, not}
 use mathlib.Core.Option.{Option, none, some, bind}
 use lib.Dec.{eqb, ltb, leb}
 use lib.IntN.{pos}
 use lib.ListN.{length, take, drop, getD}
 use Rattle.digits.specs.Ascii.{ascii}
-use Rattle.digits.specs.Decimal.{digitsOf}
+use Rattle.digits.specs.Decimal.{digitsOf, printFixed}
 use Rattle.digits.specs.Same.{same}
 use Rattle.forms.specs.Got.{pick, gotIntOf, missingInt}
 use Rattle.forms.specs.Sign.{signed}
@@ -28,6 +28,10 @@ angleOf w limit f =
     cond (eqb (length f) (w + 7) && eqb (getD f (w + 2) 0) 46)
     (joinedOf limit (digitsOf w w (take w f)) (digitsOf 2 2 (take 2 (drop w f))) (digitsOf 4 4 (drop (w + 3) f)))
     none
+
+-- A value in ten-thousandths of a minute, written so.
+abbrev pub angleText : ℕ → ℕ → List ℕ
+angleText w v = printFixed w (v / 600000) ++ (printFixed 2 (v / 10000 % 60) ++ (46 ∷ printFixed 4 (v % 10000)))
 
 -- At most 90 degrees, and at most 180.
 unfoldable pub latitudeOf : List ℕ → Option ℕ

@@ -4,3 +4,4 @@ pub mod Letters
 pub mod Sign
 pub mod Number
 pub mod Angle
+pub mod Plain
