@@ -5,10 +5,11 @@ use mathlib.Core.Path.{_≡_, refl, sym, ap, _∙_}
 use mathlib.Core.List.{List, [], _∷_, _++_, append-assoc, append-nil}
 use mathlib.Core.Bool.{Bool, true, false}
 use native.Mathlib.Omega.{arith}
+use native.Mathlib.Nat.{add-zero, zero-add}
 use native.Mathlib.Numerals.{add-one}
 use lib.Dec.{ltb}
-use lib.ListN.{length, getD, set, take, drop, length-set, length-take, drop-of-length-le}
-use lib.Seq.{drop-cons, take-at, take-suc-set, take-all}
+use lib.ListN.{length, getD, set, take, drop, length-set, length-take, take-append-drop, drop-of-length-le}
+use lib.Seq.{drop-cons, drop-set-lt, take-at, take-suc-set, take-all}
 use borrow.Author.Tests.{lt-ltb, le-ltb, ltb-true, ltb-false}
 use Rattle.digits.specs.Decimal.{printFixed}
 use Rattle.put.specs.Wrote.{Held, held, pick, putOne, wrote, wroteFields, Puts, PutsFields}
@@ -131,3 +132,16 @@ put-next s i {h} {k} l p = rw (p .is, drop-cons s i 0 l, add-one i)
 pub put-end : (s : List ℕ) (i : ℕ) (h : Held) → length s ≤ i → h ≡ wrote h (drop i s)
 unfolding wrote
 put-end s i h l = rw (drop-of-length-le s l)
+
+-- Where there is room for all of it: the text stands at the place, and the bytes around it stay.
+pub put-fits : (p : ℕ) (d s : List ℕ) → p + length s ≤ length d → wrote (held p d) s ≡ held (p + length s) (take p d ++ (s ++ drop (p + length s) d))
+unfolding wrote putOne
+put-fits p d [] h = rw (add-zero p, take-append-drop p d)
+put-fits p d (b ∷ s) h =
+    let i : p < length d = omega arith in
+    let n : p + suc (length s) ≡ suc p + length s = omega arith in
+    rw (lt-ltb p (length d) i, n) (put-fits (suc p) (set d p b) s (rw (length-set d p b) (omega arith))
+    ∙ ap (held (suc p + length s)) (rw (take-suc-set d p b i, append-assoc, drop-set-lt (suc p + length s) d p b (omega arith))))
+
+pub put-whole : {d e s : List ℕ} {r : ℕ} → Puts (held 0 d) s (held r e) → length s ≤ length d → e ≡ s ++ drop (length s) d
+put-whole {d} {e} {s} p h = ap (λ (k : Held). k .bytes) (p .is ∙ put-fits 0 d s (omega arith)) ∙ rw (zero-add (length s))
