@@ -145,3 +145,12 @@ put-fits p d (b ∷ s) h =
 
 pub put-whole : {d e s : List ℕ} {r : ℕ} → Puts (held 0 d) s (held r e) → length s ≤ length d → e ≡ s ++ drop (length s) d
 put-whole {d} {e} {s} p h = ap (λ (k : Held). k .bytes) (p .is ∙ put-fits 0 d s (omega arith)) ∙ rw (zero-add (length s))
+
+-- Fields keep the buffer's length too.
+fields-length : (h : Held) (fs : List (List ℕ)) → length (wroteFields h fs .bytes) ≡ length (h .bytes)
+unfolding wroteFields
+fields-length h [] = refl
+fields-length h (f ∷ fs) = fields-length (wrote h (44 ∷ f)) fs ∙ wrote-length h (44 ∷ f)
+
+pub fields-kept : {p q : ℕ} {d e : List ℕ} {fs : List (List ℕ)} → PutsFields (held p d) fs (held q e) → length e ≡ length d
+fields-kept {p} {q} {d} {e} {fs} w = ap (λ (k : Held). length (k .bytes)) (w .is) ∙ fields-length (held p d) fs

@@ -58,29 +58,41 @@ sideText plus minus (pos n) = plus
 sideText plus minus (negsuc n) = minus
 
 -- A position: latitude, N or S, longitude, E or W.
-abbrev pub placeFields : Place → List (List ℕ)
-placeFields p =
-    ifThere (p .there) (angleText 2 (natAbs (p .lat)))
-    ∷ ifThere (p .there) (sideText (ascii "N") (ascii "S") (p .lat))
-    ∷ ifThere (p .there) (angleText 3 (natAbs (p .lon)))
-    ∷ ifThere (p .there) (sideText (ascii "E") (ascii "W") (p .lon))
-    ∷ []
+abbrev pub latField : Place → List ℕ
+latField p = ifThere (p .there) (angleText 2 (natAbs (p .lat)))
+
+abbrev pub nsField : Place → List ℕ
+nsField p = ifThere (p .there) (sideText (ascii "N") (ascii "S") (p .lat))
+
+abbrev pub lonField : Place → List ℕ
+lonField p = ifThere (p .there) (angleText 3 (natAbs (p .lon)))
+
+abbrev pub ewField : Place → List ℕ
+ewField p = ifThere (p .there) (sideText (ascii "E") (ascii "W") (p .lon))
 
 -- The variation: a number, E or W.
-abbrev pub variationFields : Signed → List (List ℕ)
-variationFields n =
-    ifThere (n .there) (numberText (natAbs (n .value)))
-    ∷ ifThere (n .there) (sideText (ascii "E") (ascii "W") (n .value))
-    ∷ []
+abbrev pub variationField : Signed → List ℕ
+variationField n = ifThere (n .there) (numberText (natAbs (n .value)))
+
+abbrev pub variationSide : Signed → List ℕ
+variationSide n = ifThere (n .there) (sideText (ascii "E") (ascii "W") (n .value))
 
 -- A date in one field, and in three.
 abbrev pub sixField : Date → List ℕ
 sixField d = ifThere (d .there) (sixText (d .day) (d .month) (d .year))
 
-abbrev pub threeFields : Date → List (List ℕ)
-threeFields d =
-    ifThere (d .there) (printFixed 2 (d .day)) ∷ ifThere (d .there) (printFixed 2 (d .month)) ∷ ifThere (d .there) (printFixed 4 (d .year)) ∷ []
+abbrev pub dayField : Date → List ℕ
+dayField d = ifThere (d .there) (printFixed 2 (d .day))
+
+abbrev pub monthField : Date → List ℕ
+monthField d = ifThere (d .there) (printFixed 2 (d .month))
+
+abbrev pub yearField : Date → List ℕ
+yearField d = ifThere (d .there) (printFixed 4 (d .year))
 
 -- A zone in two fields.
-abbrev pub zoneFields : Zone → List (List ℕ)
-zoneFields z = ifThere (z .there) (hoursText (z .minutes)) ∷ ifThere (z .there) (minutesText (z .minutes)) ∷ []
+abbrev pub hoursField : Zone → List ℕ
+hoursField z = ifThere (z .there) (hoursText (z .minutes))
+
+abbrev pub minutesField : Zone → List ℕ
+minutesField z = ifThere (z .there) (minutesText (z .minutes))

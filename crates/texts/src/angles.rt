@@ -10,7 +10,7 @@ ghost use Rattle.digits.specs.Ascii.{ascii};
 ghost use Rattle.digits.specs.Decimal.{printFixed};
 ghost use Rattle.forms.specs.Angle.{angleText};
 ghost use Rattle.put.specs.Wrote.{held, Puts, PutsFields};
-ghost use Rattle.texts.specs.Texts.{ifThere, sideText, placeFields, variationFields};
+ghost use Rattle.texts.specs.Texts.{ifThere, sideText, latField, nsField, lonField, ewField, variationField, variationSide};
 
 // `50.6111`: the minutes of an angle.
 fn put_arc(out: &mut [u8], at: usize, z: i32) -> usize
@@ -80,7 +80,7 @@ fn side(out: &mut [u8], at: usize, there: bool, z: i32, plus: u8, minus: u8) -> 
 
 // `5550.6111,N,03732.2534,E`: a position.
 pub fn place(out: &mut [u8], at: usize, p: Place) -> usize
-    ensures { λ r. ⌜ PutsFields (held at (now (out .entry))) (placeFields p) (held r (now (out .exit))) ⌝ }
+    ensures { λ r. ⌜ PutsFields (held at (now (out .entry))) (latField p ∷ nsField p ∷ lonField p ∷ ewField p ∷ []) (held r (now (out .exit))) ⌝ }
 {
     let lat = p.lat;
     let lon = p.lon;
@@ -92,7 +92,7 @@ pub fn place(out: &mut [u8], at: usize, p: Place) -> usize
 
 // `12.5,W`: a variation, east positive.
 pub fn variation(out: &mut [u8], at: usize, n: Signed) -> usize
-    ensures { λ r. ⌜ PutsFields (held at (now (out .entry))) (variationFields n) (held r (now (out .exit))) ⌝ }
+    ensures { λ r. ⌜ PutsFields (held at (now (out .entry))) (variationField n ∷ variationSide n ∷ []) (held r (now (out .exit))) ⌝ }
 {
     let z = n.value;
     let a = crate::number(out, at, n.there, ranges::size(z));

@@ -10,7 +10,7 @@ ghost use Rattle.digits.specs.Decimal.{printFixed};
 ghost use Rattle.calendar.specs.Dates.{sixText};
 ghost use Rattle.calendar.specs.Zone.{hoursText, minutesText, fourText};
 ghost use Rattle.put.specs.Wrote.{held, Puts, PutsFields};
-ghost use Rattle.texts.specs.Texts.{ifThere, sixField, threeFields, zoneFields};
+ghost use Rattle.texts.specs.Texts.{ifThere, sixField, dayField, monthField, yearField, hoursField, minutesField};
 
 fn put_six(out: &mut [u8], at: usize, day: u32, month: u32, year: u32) -> usize
     ensures { λ r. ⌜ Puts (held at (now (out .entry))) (sixText day month year) (held r (now (out .exit))) ⌝ }
@@ -33,7 +33,7 @@ pub fn six(out: &mut [u8], at: usize, d: Date) -> usize
 
 // `15,06,2024`: a date in three fields.
 pub fn three(out: &mut [u8], at: usize, d: Date) -> usize
-    ensures { λ r. ⌜ PutsFields (held at (now (out .entry))) (threeFields d) (held r (now (out .exit))) ⌝ }
+    ensures { λ r. ⌜ PutsFields (held at (now (out .entry))) (dayField d ∷ monthField d ∷ yearField d ∷ []) (held r (now (out .exit))) ⌝ }
 {
     let a0 = crate::two(out, at, d.there, d.day);
     let a1 = crate::two(out, a0, d.there, d.month);
@@ -78,7 +78,7 @@ fn hours(out: &mut [u8], at: usize, there: bool, z: i32) -> usize
 
 // `-03,30`: a zone in two fields.
 pub fn zone(out: &mut [u8], at: usize, z: Zone) -> usize
-    ensures { λ r. ⌜ PutsFields (held at (now (out .entry))) (zoneFields z) (held r (now (out .exit))) ⌝ }
+    ensures { λ r. ⌜ PutsFields (held at (now (out .entry))) (hoursField z ∷ minutesField z ∷ []) (held r (now (out .exit))) ⌝ }
 {
     let minutes = z.minutes;
     let a = hours(out, at, z.there, minutes);

@@ -1,0 +1,20 @@
+-- The first wrong field is found from the last on, as the definition says.
+use mathlib.Core.Path.{_∙_}
+use mir.Syntax.{w32}
+use mir.Facts.{toZ-ofZ}
+use mir.Val.{SFits}
+use Rattle.records.specs.Wrong.{firstWrong}
+use Rattle.writecom.specs.Pirta.{pirtaWrong}
+use borrow.Author.Needs.{needs}
+use Rattle.writecom.proofs.pirta.wrong.Statement.{statement}
+use Rattle.writecom.proofs.pirta.wrong.Tie as tie
+
+fits1 : (c : tie.Start) → SFits w32 (c .args .r .zone)
+fits1 c = search needs
+
+returns : tie.Need-returns
+unfolding pirtaWrong firstWrong
+returns c = c .near2 .ensures ∙ rw (c .before .within .ensures, c .before .before .near .ensures, c .before .before .before .signed .ensures, toZ-ofZ {w = w32} {z = c .before .before .before .before .before .args .r .zone} (fits1 (c .before .before .before .before .before)))
+
+pub wrong-spec : {M : Type 1} → statement M
+wrong-spec = tie.close (tie.spec (λ c κs. search needs) (λ c κs. search needs) (λ c κs. search needs) (λ c κs. search needs) returns)
