@@ -1,0 +1,12 @@
+-- Each value by itself.
+use Rattle.writesat.specs.Gsv.{isBlank}
+use borrow.Author.Needs.{needs}
+use Rattle.writesat.proofs.gsv.is_blank.Statement.{statement}
+use Rattle.writesat.proofs.gsv.is_blank.Tie as tie
+
+returns : tie.Need-returns
+unfolding isBlank
+returns c = rw (c .before .before .before .is-missing .ensures, c .before .before .is-missing2 .ensures, c .before .is-missing3 .ensures)
+
+pub is-blank-spec : {M : Type 1} → statement M
+is-blank-spec = tie.close (tie.spec (λ c κs. search needs) (λ c κs. search needs) (λ c κs. search needs) returns)

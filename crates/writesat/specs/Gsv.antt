@@ -1,0 +1,91 @@
+-- GSV (3, 7, 11, 15 or 19): lines 1-9, this line 1-9, satellites 00-99; then up to four of: number 01-99, elevation 00-90, azimuth
+-- 000-359, signal 00-99. A record of over 4 entries is 5 with line 0 and field 0, before anything else; an unused place that is not blank
+-- is 5 with line 0 and field 0, after the used ones.
+use Prim.Native.Nat.{ℕ, _+_}
+use mathlib.Core.List.{List, [], _∷_, _++_}
+use mathlib.Core.Bool.{Bool, true, false, not, _&&_, _||_}
+use lib.Dec.{eqb, ltb}
+use lib.ListN.{getD}
+use Rattle.digits.specs.Decimal.{printFixed}
+use Rattle.address.specs.declared.Talker.{Talker}
+use Rattle.records.specs.declared.Entry.{Entry}
+use Rattle.records.specs.declared.Gsv.{Gsv}
+use Rattle.records.specs.declared.values.Maybe.{Maybe}
+use Rattle.records.specs.Blank.{blankEntry}
+use Rattle.records.specs.Wrong.{After, after, firstWrong}
+use Rattle.ranges.specs.Ranges.{outside, rangeWrong}
+use Rattle.texts.specs.Texts.{maybeText}
+use Rattle.sealing.specs.declared.Written.{Written}
+use Rattle.sealing.specs.Written.{pick, refused, wrote}
+use Rattle.sealing.specs.Body.{standardBody}
+
+-- The entry in place k, counted from 0; and whether it is used.
+abbrev pub entryOf : Gsv → ℕ → Entry
+entryOf r k = getD (r .entries) k blankEntry
+
+abbrev pub used : Gsv → ℕ → Bool
+used r k = ltb k (r .count)
+
+-- The values of a used entry, whose first field stands after n others.
+abbrev pub entryAfters : Bool → ℕ → Entry → List After
+entryAfters true n e =
+    after n (outside 1 99 (e .number))
+    ∷ after (n + 1) (rangeWrong 0 90 (e .elevation .there) (e .elevation .value))
+    ∷ after (n + 2) (rangeWrong 0 359 (e .azimuth .there) (e .azimuth .value))
+    ∷ after (n + 3) (rangeWrong 0 99 (e .signal .there) (e .signal .value))
+    ∷ []
+entryAfters false n e = []
+
+-- The first value outside its range, by the number of its field, or 0.
+unfoldable pub gsvWrong : Gsv → ℕ
+gsvWrong r =
+    firstWrong
+    (after 0 (outside 1 9 (r .lines))
+    ∷ after 1 (outside 1 9 (r .line))
+    ∷ after 2 (outside 0 99 (r .satellites))
+    ∷ (entryAfters (used r 0) 3 (entryOf r 0)
+    ++ (entryAfters (used r 1) 7 (entryOf r 1)
+    ++ (entryAfters (used r 2) 11 (entryOf r 2)
+    ++ entryAfters (used r 3) 15 (entryOf r 3)))))
+
+-- Blank is number 0 and three values missing and zero.
+abbrev pub isMissing : Maybe → Bool
+isMissing m = not (m .there) && eqb (m .value) 0
+
+unfoldable pub isBlank : Entry → Bool
+isBlank e = eqb (e .number) 0 && (isMissing (e .elevation) && (isMissing (e .azimuth) && isMissing (e .signal)))
+
+unfoldable pub restBlank : Gsv → Bool
+restBlank r =
+    (used r 0 || isBlank (entryOf r 0))
+    && ((used r 1 || isBlank (entryOf r 1))
+    && ((used r 2 || isBlank (entryOf r 2))
+    && (used r 3 || isBlank (entryOf r 3))))
+
+unfoldable pub gsvFault : Gsv → Written
+gsvFault r =
+    pick (ltb 4 (r .count)) (refused 5 0 0)
+    (pick (eqb (gsvWrong r) 0) (pick (restBlank r) (wrote 0) (refused 5 0 0)) (refused 5 1 (gsvWrong r)))
+
+-- The fields of an entry, and of a record.
+abbrev pub entryFields : Bool → Entry → List (List ℕ)
+entryFields true e =
+    printFixed 2 (e .number)
+    ∷ maybeText (printFixed 2) (e .elevation)
+    ∷ maybeText (printFixed 3) (e .azimuth)
+    ∷ maybeText (printFixed 2) (e .signal)
+    ∷ []
+entryFields false e = []
+
+unfoldable pub gsvFields : Gsv → List (List ℕ)
+gsvFields r =
+    printFixed 1 (r .lines)
+    ∷ printFixed 1 (r .line)
+    ∷ printFixed 2 (r .satellites)
+    ∷ (entryFields (used r 0) (entryOf r 0)
+    ++ (entryFields (used r 1) (entryOf r 1)
+    ++ (entryFields (used r 2) (entryOf r 2)
+    ++ entryFields (used r 3) (entryOf r 3))))
+
+abbrev pub gsvBody : Talker → Gsv → List ℕ
+gsvBody t r = standardBody t "GSV" (gsvFields r)

@@ -1,0 +1,3 @@
+// GSA and GSV written, each from its record.
+pub mod gsa;
+pub mod gsv;
