@@ -1,0 +1,155 @@
+-- The addresses that our writers put are known, clean and of five bytes; and a record without a wrong field has every value in range.
+use Prim.Native.Nat.{ℕ, _+_, _≤_}
+use mathlib.Core.Path.{_≡_, refl, _∙_}
+use mathlib.Core.List.{List, [], _∷_, _++_}
+use mathlib.Core.Bool.{Bool, true, false, cond}
+use native.Mathlib.Omega.{arith}
+use lib.Dec.{eqb, lit<, lit≤}
+use lib.ListN.{length, length-append}
+use borrow.Author.Tests.{eqb-true, eqb-false}
+use Rattle.digits.specs.Ascii.{ascii}
+use Rattle.digits.specs.Same.{same}
+use Rattle.address.specs.declared.Address.the-variants.{Standard, Maker}
+use Rattle.address.specs.declared.Kind.the-variants as K
+use Rattle.address.specs.declared.Pir.the-variants as P
+use Rattle.address.specs.declared.Talker.{Talker}
+use Rattle.address.specs.declared.Talker.the-variants.{Gp, Gl, Ga, Gq, Gn}
+use Rattle.address.specs.Address.{lookUp, knownOf}
+use Rattle.records.specs.Wrong.{After, nearOf, firstWrong}
+use Rattle.sealing.specs.Body.{talkerText}
+use Rattle.trips.proofs.Clean.{Clean, clean-append}
+
+-- Every value of a list is in range.
+abbrev pub Zero : List After → Type 0
+Zero [] = Unit {0}
+Zero (a ∷ l) = (a .wrong ≡ 0) × Zero l
+
+near-zero : (n w rest : ℕ) → nearOf n w rest ≡ 0 → (w ≡ 0) × (rest ≡ 0)
+unfolding nearOf
+near-zero n w rest e = go (eqb w 0) refl e
+  where
+    go : (t : Bool) → eqb w 0 ≡ t → cond t rest (n + w) ≡ 0 → (w ≡ 0) × (rest ≡ 0)
+    go true q i = (eqb-true w 0 q, i)
+    go false q i = let z : w ≡ 0 = omega (arith, i) in absurd (eqb-false w 0 q z)
+
+pub all-zero : (l : List After) → firstWrong l ≡ 0 → Zero l
+unfolding firstWrong
+all-zero [] e = tt
+all-zero (a ∷ l) e = let z = near-zero (a .before) (a .wrong) (firstWrong l) e in (z .0, all-zero l (z .1))
+
+-- And back: where every value is in range, no field is wrong.
+pub zero-all : (l : List After) → Zero l → firstWrong l ≡ 0
+unfolding firstWrong nearOf
+zero-all [] z = refl
+zero-all (a ∷ l) z = rw (z .0) (zero-all l (z .1))
+
+talker-clean : (t : Talker) → Clean (talkerText t)
+talker-clean Gp = ((lit< tt, lit< tt), ((lit< tt, lit< tt), tt))
+talker-clean Gl = ((lit< tt, lit< tt), ((lit< tt, lit< tt), tt))
+talker-clean Ga = ((lit< tt, lit< tt), ((lit< tt, lit< tt), tt))
+talker-clean Gq = ((lit< tt, lit< tt), ((lit< tt, lit< tt), tt))
+talker-clean Gn = ((lit< tt, lit< tt), ((lit< tt, lit< tt), tt))
+
+talker-two : (t : Talker) → length (talkerText t) ≡ 2
+talker-two Gp = refl
+talker-two Gl = refl
+talker-two Ga = refl
+talker-two Gq = refl
+talker-two Gn = refl
+
+-- A talker with a type of three letters.
+module _ (t : Talker) (kind : List ℕ) (three : length kind ≡ 3) where
+  pub address-five : length (talkerText t ++ kind) ≡ 5
+  address-five = length-append (talkerText t) kind ∙ rw (talker-two t, three)
+
+  pub address-clean : Clean kind → Clean (talkerText t ++ kind)
+  address-clean c = clean-append (talkerText t) kind (talker-clean t) c
+
+-- Each pair of talker and type is known, and each of the maker's addresses.
+pub known-gga : (t : Talker) → knownOf (talkerText t ++ ascii "GGA") ≡ Standard t K.Gga
+unfolding knownOf lookUp same
+known-gga Gp = refl
+known-gga Gl = refl
+known-gga Ga = refl
+known-gga Gq = refl
+known-gga Gn = refl
+
+pub known-gll : (t : Talker) → knownOf (talkerText t ++ ascii "GLL") ≡ Standard t K.Gll
+unfolding knownOf lookUp same
+known-gll Gp = refl
+known-gll Gl = refl
+known-gll Ga = refl
+known-gll Gq = refl
+known-gll Gn = refl
+
+pub known-gsa : (t : Talker) → knownOf (talkerText t ++ ascii "GSA") ≡ Standard t K.Gsa
+unfolding knownOf lookUp same
+known-gsa Gp = refl
+known-gsa Gl = refl
+known-gsa Ga = refl
+known-gsa Gq = refl
+known-gsa Gn = refl
+
+pub known-gsv : (t : Talker) → knownOf (talkerText t ++ ascii "GSV") ≡ Standard t K.Gsv
+unfolding knownOf lookUp same
+known-gsv Gp = refl
+known-gsv Gl = refl
+known-gsv Ga = refl
+known-gsv Gq = refl
+known-gsv Gn = refl
+
+pub known-rmc : (t : Talker) → knownOf (talkerText t ++ ascii "RMC") ≡ Standard t K.Rmc
+unfolding knownOf lookUp same
+known-rmc Gp = refl
+known-rmc Gl = refl
+known-rmc Ga = refl
+known-rmc Gq = refl
+known-rmc Gn = refl
+
+pub known-vtg : (t : Talker) → knownOf (talkerText t ++ ascii "VTG") ≡ Standard t K.Vtg
+unfolding knownOf lookUp same
+known-vtg Gp = refl
+known-vtg Gl = refl
+known-vtg Ga = refl
+known-vtg Gq = refl
+known-vtg Gn = refl
+
+pub known-zda : (t : Talker) → knownOf (talkerText t ++ ascii "ZDA") ≡ Standard t K.Zda
+unfolding knownOf lookUp same
+known-zda Gp = refl
+known-zda Gl = refl
+known-zda Ga = refl
+known-zda Gq = refl
+known-zda Gn = refl
+
+pub known-pirpr : knownOf (ascii "PIRPR") ≡ Maker P.Pr
+unfolding knownOf lookUp same
+known-pirpr = refl
+
+pub known-pirtr : knownOf (ascii "PIRTR") ≡ Maker P.Tr
+unfolding knownOf lookUp same
+known-pirtr = refl
+
+pub known-pirsr : knownOf (ascii "PIRSR") ≡ Maker P.Sr
+unfolding knownOf lookUp same
+known-pirsr = refl
+
+pub known-pirer : knownOf (ascii "PIRER") ≡ Maker P.Er
+unfolding knownOf lookUp same
+known-pirer = refl
+
+pub known-pirpa : knownOf (ascii "PIRPA") ≡ Maker P.Pa
+unfolding knownOf lookUp same
+known-pirpa = refl
+
+pub known-pirta : knownOf (ascii "PIRTA") ≡ Maker P.Ta
+unfolding knownOf lookUp same
+known-pirta = refl
+
+pub known-pirsa : knownOf (ascii "PIRSA") ≡ Maker P.Sa
+unfolding knownOf lookUp same
+known-pirsa = refl
+
+pub known-pirea : knownOf (ascii "PIREA") ≡ Maker P.Ea
+unfolding knownOf lookUp same
+known-pirea = refl

@@ -1,0 +1,1 @@
+// Round trips, value by value: proofs only.

@@ -1,0 +1,1 @@
+// Round trips of GGA, GLL, RMC, VTG and ZDA: proofs only.
