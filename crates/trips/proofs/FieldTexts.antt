@@ -169,5 +169,5 @@ long-course there v e = ranged 0 359999 there v 7 numberText e (λ h. length-bel
 pub long-rate : (there : Bool) (v : ℕ) → rangeWrong 1200 115200 there v ≡ 0 → length (ifThere there (plainText v)) ≤ 6
 long-rate there v e = ranged 1200 115200 there v 6 plainText e (λ h. length-plain v (omega arith))
 
-pub long-plain : (hi v : ℕ) → hi < 1000000 → outside 0 hi v ≡ 0 → length (plainText v) ≤ 6
-long-plain hi v k e = length-plain v (omega (arith, inside 0 hi v e .1))
+pub long-plain : (lo hi v : ℕ) → hi < 1000000 → outside lo hi v ≡ 0 → length (plainText v) ≤ 6
+long-plain lo hi v k e = length-plain v (omega (arith, inside lo hi v e .1))

@@ -6,3 +6,4 @@ pub mod Places
 pub mod CleanTexts
 pub mod Known
 pub mod FieldTexts
+pub mod Alike

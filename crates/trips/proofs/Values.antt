@@ -25,8 +25,8 @@ use Rattle.forms.proofs.LetterLaws.{letter-reads, unit-letter, unit-empty}
 use Rattle.forms.proofs.NumberSides.{number-reads, below-reads, height-reads, not-empty}
 use Rattle.calendar.specs.Time.{isTime, timeOf, clockText}
 use Rattle.calendar.proofs.TimeLaws.{TimeText, text-time}
-use Rattle.masks.specs.Masks.{printHex, hexDigitsOf, satellitesOf, isPortMask, portMaskOf}
-use Rattle.masks.specs.Rates.{rateOf, codeOf}
+use Rattle.masks.specs.Masks.{printHex, hexDigitsOf, satellitesOf, satellitesForm, wholeForm, isPortMask, portMaskOf, portMaskForm}
+use Rattle.masks.specs.Rates.{rateOf, rateForm, codeOf, codeForm}
 use Rattle.masks.proofs.MaskText.{length-hex, text-satellites, text-whole, text-port}
 use Rattle.masks.proofs.RateLaws.{text-rate, text-code}
 use Rattle.ranges.specs.Ranges.{outside, rangeWrong, signedWrong, letterWrong, portWrong}
@@ -153,15 +153,17 @@ empty-back = refl
 
 -- Masks of satellites, in a command and in a reply, and of a port.
 module _ (w hi : ℕ) (a : 1 ≤ w) (b : w ≤ 8) (c : hi < 16 ^ w) where
-  pub satellites-back : (there : Bool) (v : ℕ) → rangeWrong 0 hi there v ≡ 0 → maybeOf (ifThere there (printHex w v)) (satellitesOf w (ifThere there (printHex w v))) ≡ theGot there v
+  pub satellites-back : (there : Bool) (v : ℕ) → rangeWrong 0 hi there v ≡ 0 → satellitesForm w (ifThere there (printHex w v)) ≡ theGot there v
+  unfolding satellitesForm
   satellites-back =
       maybe-back (satellitesOf w) (printHex w) 0 hi (λ v l h. text-satellites w w v a (omega arith) b (omega arith)) (λ v l h e. omega (arith, length-hex w v))
 
-  pub whole-back : (v : ℕ) → outside 0 hi v ≡ 0 → gotOf (hexDigitsOf w w (printHex w v)) ≡ theGot true v
+  pub whole-back : (v : ℕ) → outside 0 hi v ≡ 0 → wholeForm w (printHex w v) ≡ theGot true v
+  unfolding wholeForm
   whole-back v e = let i = inside 0 hi v e in rw (text-whole w v b (omega (arith, i .1)))
 
-pub port-back : (there : Bool) (v : ℕ) → portWrong there v ≡ 0 → maybeOf (ifThere there (printHex 4 v)) (portMaskOf (ifThere there (printHex 4 v))) ≡ theGot there v
-unfolding portWrong maybeOf
+pub port-back : (there : Bool) (v : ℕ) → portWrong there v ≡ 0 → portMaskForm (ifThere there (printHex 4 v)) ≡ theGot there v
+unfolding portWrong portMaskForm maybeOf
 port-back true v e = rw (ne-eqb (length (printHex 4 v)) 0 (λ q. omega (arith, length-hex 4 v)), text-port v (zero-one (isPortMask v) e))
 port-back false v e = let i = inside 0 0 v e in let q : 0 ≡ v = omega (arith, i .1) in ap (theGot false) q
 
@@ -193,14 +195,16 @@ plain-filled : (v : ℕ) → v < 1000000 → length (plainText v) ≡ 0 → ⊥
 unfolding plainText
 plain-filled v h e = let w = width-is v h in omega (arith, w .some, length-fixed (widthOf v) v)
 
-pub rate-back : (there : Bool) (v : ℕ) → rangeWrong 1200 115200 there v ≡ 0 → maybeOf (ifThere there (plainText v)) (rateOf (ifThere there (plainText v))) ≡ theGot there v
+pub rate-back : (there : Bool) (v : ℕ) → rangeWrong 1200 115200 there v ≡ 0 → rateForm (ifThere there (plainText v)) ≡ theGot there v
+unfolding rateForm
 rate-back = maybe-back rateOf plainText 1200 115200 rate-reads (λ v l h e. plain-filled v (omega arith) e)
 
-pub rate-told : (v : ℕ) → outside 1200 115200 v ≡ 0 → maybeOf (plainText v) (rateOf (plainText v)) ≡ theGot true v
+pub rate-told : (v : ℕ) → outside 1200 115200 v ≡ 0 → rateForm (plainText v) ≡ theGot true v
 unfolding rangeWrong
 rate-told v e = rate-back true v e
 
-pub code-back : (v : ℕ) → outside 0 255 v ≡ 0 → gotOf (codeOf (plainText v)) ≡ theGot true v
+pub code-back : (v : ℕ) → outside 0 255 v ≡ 0 → codeForm (plainText v) ≡ theGot true v
+unfolding codeForm
 code-back v e =
     let i = inside 0 255 v e in
     let w = width-is v (omega (arith, i .1)) in

@@ -1,0 +1,1 @@
+// Round trips of the maker's sentences: proofs only.
