@@ -1,0 +1,1 @@
+// Round trips of GSA and GSV: proofs only.
