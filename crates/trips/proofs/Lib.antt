@@ -7,3 +7,6 @@ pub mod CleanTexts
 pub mod Known
 pub mod FieldTexts
 pub mod Alike
+pub mod Ranged
+pub mod RangedNumbers
+pub mod RangedPlaces
