@@ -1,9 +1,9 @@
 -- VTG read, written and read again, field by field.
 use Prim.Native.Nat.{_≤_, ℕ}
-use lib.Dec.{lit<}
+use lib.Dec.{eqb, lit<}
 use lib.ListN.{getD, length}
-use mathlib.Core.Bool.{true}
-use mathlib.Core.List.{[], _++_, _∷_}
+use mathlib.Core.Bool.{Bool, false, true}
+use mathlib.Core.List.{List, [], _++_, _∷_}
 use mathlib.Core.Path.{_∙_, _≡_, ap, refl}
 use native.Mathlib.Omega.{arith}
 use Rattle.address.specs.declared.Address.{Address}
@@ -15,16 +15,23 @@ use Rattle.navigation.specs.Vtg.{vtgFrom, vtgOf}
 use Rattle.reading.specs.Lines.{addressed, readLine}
 use Rattle.records.specs.Answers.{answered, counted}
 use Rattle.records.specs.Blank.{aloneOf}
-use Rattle.records.specs.Wrong.{firstWrong, nearOf}
+use Rattle.records.specs.Wrong.{after, firstWrong, nearOf}
 use Rattle.records.specs.declared.Vtg.{Vtg}
 use Rattle.sealing.specs.Body.{talkerText}
 use Rattle.trips.proofs.Back.{read-back}
 use Rattle.trips.proofs.Clean.{CleanAll}
 use Rattle.trips.proofs.CleanTexts.{clean-letter, joined-length}
 use Rattle.trips.proofs.FieldTexts.{clean-mode, field-kmh, field-knots, field-number, field-unit, long-course, long-number, long-unit}
-use Rattle.trips.proofs.Known.{address-clean, address-five, all-zero, known-vtg}
+use Rattle.trips.proofs.Known.{address-clean, address-five, all-zero, known-vtg, zero-all}
 use Rattle.trips.proofs.Values.{below-back, letter-back, number-back, theGot, unit-back}
 use Rattle.writenav.specs.Vtg.{vtgBody, vtgFields, vtgWrong}
+use Rattle.trips.proofs.RangedNumbers.{below-in, letter-in-set, number-in}
+use Rattle.kinds.specs.Kinds.{belowForm, letterForm, numberForm}
+use Rattle.forms.specs.Letters.{unitWrong}
+use Rattle.records.specs.Keep.{kmhOf, knotsOf, numberOf}
+use borrow.Author.Tests.{eqb-true}
+use Rattle.records.specs.declared.Sentence.{Sentence}
+use Rattle.forms.specs.Got.{pick}
 use Rattle.records.specs.declared.Sentence.the-variants as S
 
 module _ (t : Talker) (r : Vtg) (good : vtgWrong r ≡ 0) where
@@ -52,3 +59,20 @@ module _ (t : Talker) (r : Vtg) (good : vtgWrong r ≡ 0) where
       read-back (talkerText t ++ ascii "VTG") _ _ (address-five t (ascii "VTG") refl) (address-clean t (ascii "VTG") refl ((lit< tt, lit< tt), ((lit< tt, lit< tt), ((lit< tt, lit< tt), tt)))) clean fits
       ∙ ap (λ (x : Address). addressed x 9 (λ (k : ℕ). getD ((talkerText t ++ ascii "VTG") ∷ vtgFields r) k [])) (known-vtg t)
       ∙ ap aloneOf (rw (below-back 359999 (lit< tt) (r .course .there) (r .course .value) (z .0), unit-back (r .course .there) (unit "T"), below-back 359999 (lit< tt) (r .magnetic .there) (r .magnetic .value) (z .1 .0), unit-back (r .magnetic .there) (unit "M"), number-back (r .knots .there) (r .knots .value) (z .1 .1 .0), unit-back (r .knots .there) (unit "N"), number-back (r .kmh .there) (r .kmh .value) (z .1 .1 .1 .0), unit-back (r .kmh .there) (unit "K"), letter-back (ascii "ADEMSN") (r .mode) clean-mode (z .1 .1 .1 .1 .0)) made)
+
+-- What was read is in range: whatever holds of refusals and of records in range holds of what the reader answers.
+module _ (t : Talker) (n : ℕ) (field : ℕ → List ℕ) (G : Sentence → Type 0) (refused : (no : ℕ) (at : ℕ) → G (S.Refused no at))
+    (written : (r : Vtg) → n ≡ 9 → vtgWrong r ≡ 0 → G (S.Vtg t r)) where
+  in-range : firstWrong (after 0 (belowForm 360000 (field 1) .wrong) ∷ after 1 (unitWrong (field 2) (belowForm 360000 (field 1) .there) (unit "T")) ∷ after 2 (belowForm 360000 (field 3) .wrong) ∷ after 3 (unitWrong (field 4) (belowForm 360000 (field 3) .there) (unit "M")) ∷ after 4 (numberForm (field 5) .wrong) ∷ after 5 (unitWrong (field 6) (numberForm (field 5) .there) (unit "N")) ∷ after 6 (numberForm (field 7) .wrong) ∷ after 7 (unitWrong (field 8) (numberForm (field 7) .there) (unit "K")) ∷ after 8 (letterForm (ascii "ADEMSN") (field 9) .wrong) ∷ []) ≡ 0 → vtgWrong (record { course = numberOf (belowForm 360000 (field 1)); magnetic = numberOf (belowForm 360000 (field 3)); knots = knotsOf (numberForm (field 5)); kmh = kmhOf (numberForm (field 7)); mode = letterForm (ascii "ADEMSN") (field 9) .value }) ≡ 0
+  unfolding vtgWrong
+  in-range e = let z = all-zero (after 0 (belowForm 360000 (field 1) .wrong) ∷ after 1 (unitWrong (field 2) (belowForm 360000 (field 1) .there) (unit "T")) ∷ after 2 (belowForm 360000 (field 3) .wrong) ∷ after 3 (unitWrong (field 4) (belowForm 360000 (field 3) .there) (unit "M")) ∷ after 4 (numberForm (field 5) .wrong) ∷ after 5 (unitWrong (field 6) (numberForm (field 5) .there) (unit "N")) ∷ after 6 (numberForm (field 7) .wrong) ∷ after 7 (unitWrong (field 8) (numberForm (field 7) .there) (unit "K")) ∷ after 8 (letterForm (ascii "ADEMSN") (field 9) .wrong) ∷ []) e in zero-all _ (below-in 359999 (field 1) (z .0), (below-in 359999 (field 3) (z .1 .1 .0), (number-in (field 5) (z .1 .1 .1 .1 .0), (number-in (field 7) (z .1 .1 .1 .1 .1 .1 .0), (letter-in-set (ascii "ADEMSN") (field 9) (z .1 .1 .1 .1 .1 .1 .1 .1 .0), tt)))))
+
+  pub write-read : G (vtgOf t n field)
+  unfolding vtgOf counted vtgFrom answered
+  write-read = go (eqb n 9) (eqb (firstWrong (after 0 (belowForm 360000 (field 1) .wrong) ∷ after 1 (unitWrong (field 2) (belowForm 360000 (field 1) .there) (unit "T")) ∷ after 2 (belowForm 360000 (field 3) .wrong) ∷ after 3 (unitWrong (field 4) (belowForm 360000 (field 3) .there) (unit "M")) ∷ after 4 (numberForm (field 5) .wrong) ∷ after 5 (unitWrong (field 6) (numberForm (field 5) .there) (unit "N")) ∷ after 6 (numberForm (field 7) .wrong) ∷ after 7 (unitWrong (field 8) (numberForm (field 7) .there) (unit "K")) ∷ after 8 (letterForm (ascii "ADEMSN") (field 9) .wrong) ∷ [])) 0) refl refl
+    where
+      go : (a b : Bool) → eqb n 9 ≡ a → eqb (firstWrong (after 0 (belowForm 360000 (field 1) .wrong) ∷ after 1 (unitWrong (field 2) (belowForm 360000 (field 1) .there) (unit "T")) ∷ after 2 (belowForm 360000 (field 3) .wrong) ∷ after 3 (unitWrong (field 4) (belowForm 360000 (field 3) .there) (unit "M")) ∷ after 4 (numberForm (field 5) .wrong) ∷ after 5 (unitWrong (field 6) (numberForm (field 5) .there) (unit "N")) ∷ after 6 (numberForm (field 7) .wrong) ∷ after 7 (unitWrong (field 8) (numberForm (field 7) .there) (unit "K")) ∷ after 8 (letterForm (ascii "ADEMSN") (field 9) .wrong) ∷ [])) 0 ≡ b
+          → G (pick a (pick b (S.Vtg t (record { course = numberOf (belowForm 360000 (field 1)); magnetic = numberOf (belowForm 360000 (field 3)); knots = knotsOf (numberForm (field 5)); kmh = kmhOf (numberForm (field 7)); mode = letterForm (ascii "ADEMSN") (field 9) .value })) (S.Refused 5 (firstWrong (after 0 (belowForm 360000 (field 1) .wrong) ∷ after 1 (unitWrong (field 2) (belowForm 360000 (field 1) .there) (unit "T")) ∷ after 2 (belowForm 360000 (field 3) .wrong) ∷ after 3 (unitWrong (field 4) (belowForm 360000 (field 3) .there) (unit "M")) ∷ after 4 (numberForm (field 5) .wrong) ∷ after 5 (unitWrong (field 6) (numberForm (field 5) .there) (unit "N")) ∷ after 6 (numberForm (field 7) .wrong) ∷ after 7 (unitWrong (field 8) (numberForm (field 7) .there) (unit "K")) ∷ after 8 (letterForm (ascii "ADEMSN") (field 9) .wrong) ∷ [])))) (S.Refused 4 0))
+      go false b p q = refused 4 0
+      go true false p q = refused 5 (firstWrong (after 0 (belowForm 360000 (field 1) .wrong) ∷ after 1 (unitWrong (field 2) (belowForm 360000 (field 1) .there) (unit "T")) ∷ after 2 (belowForm 360000 (field 3) .wrong) ∷ after 3 (unitWrong (field 4) (belowForm 360000 (field 3) .there) (unit "M")) ∷ after 4 (numberForm (field 5) .wrong) ∷ after 5 (unitWrong (field 6) (numberForm (field 5) .there) (unit "N")) ∷ after 6 (numberForm (field 7) .wrong) ∷ after 7 (unitWrong (field 8) (numberForm (field 7) .there) (unit "K")) ∷ after 8 (letterForm (ascii "ADEMSN") (field 9) .wrong) ∷ []))
+      go true true p q = let e = eqb-true (firstWrong (after 0 (belowForm 360000 (field 1) .wrong) ∷ after 1 (unitWrong (field 2) (belowForm 360000 (field 1) .there) (unit "T")) ∷ after 2 (belowForm 360000 (field 3) .wrong) ∷ after 3 (unitWrong (field 4) (belowForm 360000 (field 3) .there) (unit "M")) ∷ after 4 (numberForm (field 5) .wrong) ∷ after 5 (unitWrong (field 6) (numberForm (field 5) .there) (unit "N")) ∷ after 6 (numberForm (field 7) .wrong) ∷ after 7 (unitWrong (field 8) (numberForm (field 7) .there) (unit "K")) ∷ after 8 (letterForm (ascii "ADEMSN") (field 9) .wrong) ∷ [])) 0 q in written (record { course = numberOf (belowForm 360000 (field 1)); magnetic = numberOf (belowForm 360000 (field 3)); knots = knotsOf (numberForm (field 5)); kmh = kmhOf (numberForm (field 7)); mode = letterForm (ascii "ADEMSN") (field 9) .value }) (eqb-true n 9 p) (in-range e)

@@ -1,8 +1,8 @@
 -- ZDA read, written and read again, field by field.
 use Prim.Native.Nat.{_≤_, ℕ}
-use lib.Dec.{lit<}
+use lib.Dec.{eqb, lit<}
 use lib.ListN.{getD, length}
-use mathlib.Core.List.{[], _++_, _∷_}
+use mathlib.Core.List.{List, [], _++_, _∷_}
 use mathlib.Core.Path.{_∙_, _≡_, ap, refl}
 use native.Mathlib.Omega.{arith}
 use Rattle.address.specs.declared.Address.{Address}
@@ -13,17 +13,27 @@ use Rattle.navigation.specs.Zda.{zdaFrom, zdaOf}
 use Rattle.reading.specs.Lines.{addressed, readLine}
 use Rattle.records.specs.Answers.{answered, counted}
 use Rattle.records.specs.Blank.{aloneOf}
-use Rattle.records.specs.Wrong.{firstWrong, nearOf}
+use Rattle.records.specs.Wrong.{after, firstWrong, nearOf}
 use Rattle.records.specs.declared.Zda.{Zda}
 use Rattle.sealing.specs.Body.{talkerText}
 use Rattle.trips.proofs.Back.{read-back}
 use Rattle.trips.proofs.Clean.{CleanAll}
 use Rattle.trips.proofs.CleanTexts.{joined-length}
 use Rattle.trips.proofs.FieldTexts.{field-day, field-hours, field-minutes, field-month, field-time, field-year, long-day, long-hours, long-minutes, long-month, long-time, long-year}
-use Rattle.trips.proofs.Known.{address-clean, address-five, all-zero, known-zda}
+use Rattle.trips.proofs.Known.{address-clean, address-five, all-zero, known-zda, zero-all}
 use Rattle.trips.proofs.Places.{gotDate, three-back, zone-back}
 use Rattle.trips.proofs.Values.{theGot, theGotInt, time-back}
 use Rattle.writenav.specs.Zda.{zdaBody, zdaFields, zdaWrong}
+use Rattle.trips.proofs.Ranged.{time-in}
+use Rattle.trips.proofs.RangedPlaces.{three-in, zone-in}
+use Rattle.kinds.specs.Kinds.{timeForm}
+use Rattle.calendar.specs.Dates.{dateThree}
+use Rattle.calendar.specs.Zone.{zoneTwo}
+use Rattle.records.specs.Keep.{datedOf, keptOf, zonedOf}
+use mathlib.Core.Bool.{Bool, false, true}
+use borrow.Author.Tests.{eqb-true}
+use Rattle.records.specs.declared.Sentence.{Sentence}
+use Rattle.forms.specs.Got.{pick}
 use Rattle.records.specs.declared.Sentence.the-variants as S
 
 module _ (t : Talker) (r : Zda) (good : zdaWrong r ≡ 0) where
@@ -51,3 +61,20 @@ module _ (t : Talker) (r : Zda) (good : zdaWrong r ≡ 0) where
       read-back (talkerText t ++ ascii "ZDA") _ _ (address-five t (ascii "ZDA") refl) (address-clean t (ascii "ZDA") refl ((lit< tt, lit< tt), ((lit< tt, lit< tt), ((lit< tt, lit< tt), tt)))) clean fits
       ∙ ap (λ (x : Address). addressed x 6 (λ (k : ℕ). getD ((talkerText t ++ ascii "ZDA") ∷ zdaFields r) k [])) (known-zda t)
       ∙ ap aloneOf (rw (time-back (r .time .there) (r .time .value) (z .0), three-back (r .date) (z .1 .0), zone-back (r .zone) (z .1 .1 .0)) made)
+
+-- What was read is in range: whatever holds of refusals and of records in range holds of what the reader answers.
+module _ (t : Talker) (n : ℕ) (field : ℕ → List ℕ) (G : Sentence → Type 0) (refused : (no : ℕ) (at : ℕ) → G (S.Refused no at))
+    (written : (r : Zda) → n ≡ 6 → zdaWrong r ≡ 0 → G (S.Zda t r)) where
+  in-range : firstWrong (after 0 (timeForm (field 1) .wrong) ∷ after 1 (dateThree (field 2) (field 3) (field 4) .wrong) ∷ after 4 (zoneTwo (field 5) (field 6) .wrong) ∷ []) ≡ 0 → zdaWrong (record { time = keptOf (timeForm (field 1)); date = datedOf (dateThree (field 2) (field 3) (field 4)); zone = zonedOf (zoneTwo (field 5) (field 6)) }) ≡ 0
+  unfolding zdaWrong
+  in-range e = let z = all-zero (after 0 (timeForm (field 1) .wrong) ∷ after 1 (dateThree (field 2) (field 3) (field 4) .wrong) ∷ after 4 (zoneTwo (field 5) (field 6) .wrong) ∷ []) e in zero-all _ (time-in (field 1) (z .0), (three-in (field 2) (field 3) (field 4), (zone-in (field 5) (field 6), tt)))
+
+  pub write-read : G (zdaOf t n field)
+  unfolding zdaOf counted zdaFrom answered
+  write-read = go (eqb n 6) (eqb (firstWrong (after 0 (timeForm (field 1) .wrong) ∷ after 1 (dateThree (field 2) (field 3) (field 4) .wrong) ∷ after 4 (zoneTwo (field 5) (field 6) .wrong) ∷ [])) 0) refl refl
+    where
+      go : (a b : Bool) → eqb n 6 ≡ a → eqb (firstWrong (after 0 (timeForm (field 1) .wrong) ∷ after 1 (dateThree (field 2) (field 3) (field 4) .wrong) ∷ after 4 (zoneTwo (field 5) (field 6) .wrong) ∷ [])) 0 ≡ b
+          → G (pick a (pick b (S.Zda t (record { time = keptOf (timeForm (field 1)); date = datedOf (dateThree (field 2) (field 3) (field 4)); zone = zonedOf (zoneTwo (field 5) (field 6)) })) (S.Refused 5 (firstWrong (after 0 (timeForm (field 1) .wrong) ∷ after 1 (dateThree (field 2) (field 3) (field 4) .wrong) ∷ after 4 (zoneTwo (field 5) (field 6) .wrong) ∷ [])))) (S.Refused 4 0))
+      go false b p q = refused 4 0
+      go true false p q = refused 5 (firstWrong (after 0 (timeForm (field 1) .wrong) ∷ after 1 (dateThree (field 2) (field 3) (field 4) .wrong) ∷ after 4 (zoneTwo (field 5) (field 6) .wrong) ∷ []))
+      go true true p q = let e = eqb-true (firstWrong (after 0 (timeForm (field 1) .wrong) ∷ after 1 (dateThree (field 2) (field 3) (field 4) .wrong) ∷ after 4 (zoneTwo (field 5) (field 6) .wrong) ∷ [])) 0 q in written (record { time = keptOf (timeForm (field 1)); date = datedOf (dateThree (field 2) (field 3) (field 4)); zone = zonedOf (zoneTwo (field 5) (field 6)) }) (eqb-true n 6 p) (in-range e)
