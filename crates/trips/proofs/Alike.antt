@@ -3,13 +3,18 @@ use Prim.Native.Nat.{ℕ}
 use mathlib.Core.Path.{_≡_, refl, sym, ap, _∙_}
 use mathlib.Core.Bool.{Bool, true, false, not, _&&_, cond, true≢false}
 use native.Mathlib.Omega.{arith}
+use lib.Dec.{eqb}
 use lib.IntN.{ℤ, pos}
+use borrow.Author.Tests.{eqb-true, eqb-false}
+use Rattle.forms.specs.declared.got.Got.{Got}
+use Rattle.forms.specs.declared.got.GotInt.{GotInt}
 use Rattle.records.specs.declared.values.Maybe.{Maybe}
 use Rattle.records.specs.declared.values.Zone.{Zone}
 use Rattle.records.specs.Keep.{keptIf, zonedIf, neededWrong, neededInt}
-use Rattle.ranges.specs.Ranges.{rangeWrong, portWrong, alikeWrong, signedWrong}
+use Rattle.ranges.specs.Ranges.{outside, rangeWrong, portWrong, alikeWrong, signedWrong}
 use Rattle.trips.proofs.Values.{theGot, theGotInt, inside}
 use Rattle.trips.proofs.Places.{signed-none}
+use Rattle.trips.proofs.Ranged.{zero-outside}
 
 pub alike-parts : (needed there : Bool) (w : ℕ) → alikeWrong needed there w ≡ 0 → (needed ≡ there) × (w ≡ 0)
 unfolding alikeWrong
@@ -60,3 +65,54 @@ kept-zone needed z e h = rw e (go (z .there) refl)
     go false q =
         let m = signed-none 839 (z .minutes) (rw q at h) in
         rw q (ap (λ (v : ℤ). record { there = false; minutes = v }) (sym m))
+
+-- The other way: what was read where another value says so.
+there-too : (n t : Bool) → _≡_ {A = ℕ} (cond (n && not t) 1 0) 0 → n ≡ true → t ≡ true
+there-too n true i q = refl
+there-too true false i q = let z : ⊥ = omega arith in absurd z
+there-too false false i q = q
+
+needed-both : (needed : Bool) (w : ℕ) (there : Bool) → cond (eqb w 0) (cond (needed && not there) 1 0) w ≡ 0 → (w ≡ 0) × (needed ≡ true → there ≡ true)
+needed-both needed w there e = go (eqb w 0) refl e
+  where
+    go : (t : Bool) → eqb w 0 ≡ t → cond t (cond (needed && not there) 1 0) w ≡ 0 → (w ≡ 0) × (needed ≡ true → there ≡ true)
+    go true q i = (eqb-true w 0 q, there-too needed there i)
+    go false q i = absurd (eqb-false w 0 q i)
+
+pub needed-parts : (needed : Bool) (g : Got) → neededWrong needed g ≡ 0 → (g .wrong ≡ 0) × (needed ≡ true → g .there ≡ true)
+needed-parts needed g e = needed-both needed (g .wrong) (g .there) e
+
+pub needed-int-parts : (needed : Bool) (g : GotInt) → neededInt needed g ≡ 0 → (g .wrong ≡ 0) × (needed ≡ true → g .there ≡ true)
+needed-int-parts needed g e = needed-both needed (g .wrong) (g .there) e
+
+module _ (wrong : Bool → ℕ → ℕ) (blank : wrong false 0 ≡ 0) where
+  pub alike-kept : (needed : Bool) (g : Got) → wrong (g .there) (g .value) ≡ 0 → (needed ≡ true → g .there ≡ true)
+      → alikeWrong needed (keptIf needed g .there) (wrong (keptIf needed g .there) (keptIf needed g .value)) ≡ 0
+  unfolding alikeWrong
+  alike-kept true g e h = rw (h refl) (rw (h refl) at e)
+  alike-kept false g e h = blank
+
+pub alike-zone : (needed : Bool) (g : GotInt) → signedWrong 839 (g .there) (g .value) ≡ 0 → (needed ≡ true → g .there ≡ true)
+    → alikeWrong needed (zonedIf needed g .there) (signedWrong 839 (zonedIf needed g .there) (zonedIf needed g .minutes)) ≡ 0
+unfolding alikeWrong signedWrong rangeWrong
+alike-zone true g e h = rw (h refl) (rw (h refl) at e)
+alike-zone false g e h = zero-outside
+
+-- A value that is there, by itself.
+pub told-range : (lo hi : ℕ) (g : Got) → rangeWrong lo hi (g .there) (g .value) ≡ 0 → g .there ≡ true → outside lo hi (g .value) ≡ 0
+unfolding rangeWrong
+told-range lo hi g e h = rw h at e
+
+pub told-port : (g : Got) → portWrong (g .there) (g .value) ≡ 0 → g .there ≡ true → portWrong true (g .value) ≡ 0
+told-port g e h = rw h at e
+
+pub told-zone : (g : GotInt) → signedWrong 839 (g .there) (g .value) ≡ 0 → g .there ≡ true → signedWrong 839 true (g .value) ≡ 0
+told-zone g e h = rw h at e
+
+pub no-range : (lo hi : ℕ) → rangeWrong lo hi false 0 ≡ 0
+unfolding rangeWrong
+no-range lo hi = zero-outside
+
+pub no-port : portWrong false 0 ≡ 0
+unfolding portWrong
+no-port = zero-outside

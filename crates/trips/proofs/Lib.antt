@@ -6,7 +6,7 @@ pub mod Places
 pub mod CleanTexts
 pub mod Known
 pub mod FieldTexts
-pub mod Alike
 pub mod Ranged
+pub mod Alike
 pub mod RangedNumbers
 pub mod RangedPlaces
