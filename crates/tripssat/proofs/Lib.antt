@@ -1,3 +1,4 @@
 pub mod Lists
 pub mod Gsa
 pub mod Gsv
+pub mod GsvRead
