@@ -3,3 +3,4 @@ pub mod Forms
 pub mod Determined
 pub mod DeterminedReading
 pub mod Rows
+pub mod Rewriting

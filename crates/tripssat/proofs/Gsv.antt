@@ -160,12 +160,19 @@ module _ (t : Talker) (r : Gsv) where
 
   clean : CleanAll (gsvFields r)
   unfolding gsvFields
-  clean =
-      (clean-fixed 1 (r .lines), (clean-fixed 1 (r .line), (clean-fixed 2 (r .satellites),
-      clean-all-append (entryFields (used r 0) (entryOf r 0)) _ (entry-clean (used r 0) (entryOf r 0))
-      (clean-all-append (entryFields (used r 1) (entryOf r 1)) _ (entry-clean (used r 1) (entryOf r 1))
-      (clean-all-append (entryFields (used r 2) (entryOf r 2)) _ (entry-clean (used r 2) (entryOf r 2))
-      (entry-clean (used r 3) (entryOf r 3)))))))
+  clean = (
+    clean-fixed 1 (r .lines),
+    (
+      clean-fixed 1 (r .line),
+      (
+        clean-fixed 2 (r .satellites),
+        clean-all-append (entryFields (used r 0) (entryOf r 0)) _ (entry-clean (used r 0) (entryOf r 0))
+            (clean-all-append (entryFields (used r 1) (entryOf r 1)) _ (entry-clean (used r 1) (entryOf r 1))
+            (clean-all-append (entryFields (used r 2) (entryOf r 2)) _ (entry-clean (used r 2) (entryOf r 2))
+            (entry-clean (used r 3) (entryOf r 3)))),
+      ),
+    ),
+  )
 
   -- The line of a record never passes 82 bytes.
   pub fits : length (gsvBody t r) ≤ 76

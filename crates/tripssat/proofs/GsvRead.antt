@@ -79,11 +79,18 @@ module _ (t : Talker) (field : ℕ → List ℕ) (G : Reading → Type 0) (refus
     unfolding gsvWrong
     in-range e =
         let z = all-zero (after 0 (exactForm 1 1 9 (field 1) .wrong) ∷ after 1 (exactForm 1 1 9 (field 2) .wrong) ∷ after 2 (exactForm 2 0 99 (field 3) .wrong) ∷ after 3 (entryForm (ltb 0 count) (field 4) (field 5) (field 6) (field 7) .wrong) ∷ after 7 (entryForm (ltb 1 count) (field 8) (field 9) (field 10) (field 11) .wrong) ∷ after 11 (entryForm (ltb 2 count) (field 12) (field 13) (field 14) (field 15) .wrong) ∷ after 15 (entryForm (ltb 3 count) (field 16) (field 17) (field 18) (field 19) .wrong) ∷ []) e in
-        zero-all _
-        (exact-in 1 1 9 (field 1) (z .0), (exact-in 1 1 9 (field 2) (z .1 .0), (exact-in 2 0 99 (field 3) (z .1 .1 .0),
-        zero-append (entryAfters (ltb 0 count) 3 (entryForm (ltb 0 count) (field 4) (field 5) (field 6) (field 7) .entry)) _ (entry-in (field 4) (field 5) (field 6) (field 7) 3 (ltb 0 count) (z .1 .1 .1 .0))
-        (zero-append (entryAfters (ltb 1 count) 7 (entryForm (ltb 1 count) (field 8) (field 9) (field 10) (field 11) .entry)) _ (entry-in (field 8) (field 9) (field 10) (field 11) 7 (ltb 1 count) (z .1 .1 .1 .1 .0))
-        (zero-append (entryAfters (ltb 2 count) 11 (entryForm (ltb 2 count) (field 12) (field 13) (field 14) (field 15) .entry)) (entryAfters (ltb 3 count) 15 (entryForm (ltb 3 count) (field 16) (field 17) (field 18) (field 19) .entry)) (entry-in (field 12) (field 13) (field 14) (field 15) 11 (ltb 2 count) (z .1 .1 .1 .1 .1 .0)) (entry-in (field 16) (field 17) (field 18) (field 19) 15 (ltb 3 count) (z .1 .1 .1 .1 .1 .1 .0)))))))
+        zero-all _ (
+          exact-in 1 1 9 (field 1) (z .0),
+          (
+            exact-in 1 1 9 (field 2) (z .1 .0),
+            (
+              exact-in 2 0 99 (field 3) (z .1 .1 .0),
+              zero-append (entryAfters (ltb 0 count) 3 (entryForm (ltb 0 count) (field 4) (field 5) (field 6) (field 7) .entry)) _ (entry-in (field 4) (field 5) (field 6) (field 7) 3 (ltb 0 count) (z .1 .1 .1 .0))
+                  (zero-append (entryAfters (ltb 1 count) 7 (entryForm (ltb 1 count) (field 8) (field 9) (field 10) (field 11) .entry)) _ (entry-in (field 8) (field 9) (field 10) (field 11) 7 (ltb 1 count) (z .1 .1 .1 .1 .0))
+                  (zero-append (entryAfters (ltb 2 count) 11 (entryForm (ltb 2 count) (field 12) (field 13) (field 14) (field 15) .entry)) (entryAfters (ltb 3 count) 15 (entryForm (ltb 3 count) (field 16) (field 17) (field 18) (field 19) .entry)) (entry-in (field 12) (field 13) (field 14) (field 15) 11 (ltb 2 count) (z .1 .1 .1 .1 .1 .0)) (entry-in (field 16) (field 17) (field 18) (field 19) 15 (ltb 3 count) (z .1 .1 .1 .1 .1 .1 .0)))),
+            ),
+          ),
+        )
 
     blank : restBlank (record { lines = exactForm 1 1 9 (field 1) .value; line = exactForm 1 1 9 (field 2) .value; satellites = exactForm 2 0 99 (field 3) .value; count = count; entries = entryForm (ltb 0 count) (field 4) (field 5) (field 6) (field 7) .entry ∷ entryForm (ltb 1 count) (field 8) (field 9) (field 10) (field 11) .entry ∷ entryForm (ltb 2 count) (field 12) (field 13) (field 14) (field 15) .entry ∷ entryForm (ltb 3 count) (field 16) (field 17) (field 18) (field 19) .entry ∷ [] }) ≡ true
     unfolding restBlank

@@ -1,0 +1,284 @@
+-- What was read can be written: every sentence that the line reader gives is in range, and its line fits. The body of a line is as long as
+-- its fields and commas together, and no field is written longer than it was read, but in the maker's sentences, which always fit.
+use Prim.Native.Nat.{ℕ, zero, suc, _+_, _-_, _≤_, _<_}
+use mathlib.Core.Path.{_≡_, refl, sym, ap, _∙_, subst}
+use mathlib.Core.List.{List, [], _∷_, _++_}
+use mathlib.Core.Bool.{Bool, true, false, not, _&&_, cond}
+use native.Mathlib.Omega.{arith}
+use lib.Dec.{eqb, leb}
+use lib.ListN.{length, getD, take}
+use borrow.Author.Tests.{eqb-true, leb-true, leb-false, not-true}
+use Rattle.digits.specs.Ascii.{ascii}
+use Rattle.digits.proofs.Bools.{and-left, and-right}
+use Rattle.line.specs.Line.{lineRefusal, bodyOf, asLine}
+use Rattle.line.proofs.Form.{Body, accepted}
+use Rattle.address.specs.declared.Address.{Address}
+use Rattle.address.specs.declared.Address.the-variants.{Standard, Maker, Unknown}
+use Rattle.address.specs.declared.Kind.{Kind}
+use Rattle.address.specs.declared.Kind.the-variants as K
+use Rattle.address.specs.declared.Pir.{Pir}
+use Rattle.address.specs.declared.Pir.the-variants as P
+use Rattle.address.specs.declared.Talker.{Talker}
+use Rattle.address.specs.Address.{pick, commaFree, knownOf, addressOf}
+use Rattle.address.proofs.Commas.{no-sixth}
+use Rattle.fields.specs.FieldN.{unknownNo}
+use Rattle.fields.specs.Fields.{onto, fieldsOf, joinFields}
+use Rattle.fields.specs.Places.{theFields}
+use Rattle.fields.proofs.Joining.{joinAll, join-fields}
+use Rattle.fields.proofs.Splitting.{First, first-field}
+use Rattle.records.specs.declared.Gsa.{Gsa}
+use Rattle.records.specs.declared.Gsv.{Gsv}
+use Rattle.records.specs.declared.Reading.{Reading}
+use Rattle.records.specs.declared.Sentence.{Sentence}
+use Rattle.records.specs.declared.Sentence.the-variants as S
+use Rattle.records.specs.Blank.{aloneOf}
+use Rattle.reading.specs.Lines.{standardOf, makerOf, addressed, readBody, readLine}
+use Rattle.sealing.specs.Body.{talkerText}
+use Rattle.sealing.specs.Written.{wrote}
+use Rattle.sealing.proofs.Sealing.{line-length}
+use Rattle.trips.proofs.CleanTexts.{total, joined-length}
+use Rattle.trips.proofs.Known.{address-five}
+use Rattle.writesat.specs.Gsa.{gsaWrong, gsaFields, gsaBody}
+use Rattle.writesat.specs.Gsv.{gsvFault, gsvBody}
+use Rattle.tripssat.proofs.Gsa as TGsa
+use Rattle.tripssat.proofs.Gsv as TGsv
+use Rattle.tripssat.proofs.GsvRead as TGsvRead
+use Rattle.writenav.specs.Gga.{ggaWrong, ggaFields, ggaBody}
+use Rattle.tripsnav.proofs.Gga as TGga
+use Rattle.writenav.specs.Gll.{gllWrong, gllFields, gllBody}
+use Rattle.tripsnav.proofs.Gll as TGll
+use Rattle.writenav.specs.Rmc.{rmcWrong, rmcFields, rmcBody}
+use Rattle.tripsnav.proofs.Rmc as TRmc
+use Rattle.writenav.specs.Vtg.{vtgWrong, vtgFields, vtgBody}
+use Rattle.tripsnav.proofs.Vtg as TVtg
+use Rattle.writenav.specs.Zda.{zdaWrong, zdaFields, zdaBody}
+use Rattle.tripsnav.proofs.Zda as TZda
+use Rattle.writecom.specs.Pirpr.{pirprWrong, pirprBody}
+use Rattle.tripscom.proofs.Pirpr as TPirpr
+use Rattle.writecom.specs.Pirtr.{pirtrWrong, pirtrBody}
+use Rattle.tripscom.proofs.Pirtr as TPirtr
+use Rattle.writecom.specs.Pirsr.{pirsrWrong, pirsrBody}
+use Rattle.tripscom.proofs.Pirsr as TPirsr
+use Rattle.writecom.specs.Pirpa.{pirpaWrong, pirpaBody}
+use Rattle.tripscom.proofs.Pirpa as TPirpa
+use Rattle.writecom.specs.Pirta.{pirtaWrong, pirtaBody}
+use Rattle.tripscom.proofs.Pirta as TPirta
+use Rattle.writecom.specs.Pirsa.{pirsaWrong, pirsaBody}
+use Rattle.tripscom.proofs.Pirsa as TPirsa
+use Rattle.writecom.specs.Pirea.{pireaWrong, pireaBody}
+use Rattle.tripscom.proofs.Pirea as TPirea
+use Rattle.writecom.specs.Pirer.{pirerBody}
+use Rattle.tripscom.proofs.Pirer as TPirer
+
+-- In range, and its line fits.
+abbrev pub Fits : List ℕ → Type 0
+Fits body = length (asLine body) ≤ 82
+
+abbrev pub Writable : Sentence → Gsa → Gsv → Type 0
+Writable (S.Gga t r) a v = (ggaWrong r ≡ 0) × Fits (ggaBody t r)
+Writable (S.Gll t r) a v = (gllWrong r ≡ 0) × Fits (gllBody t r)
+Writable (S.Rmc t r) a v = (rmcWrong r ≡ 0) × Fits (rmcBody t r)
+Writable (S.Vtg t r) a v = (vtgWrong r ≡ 0) × Fits (vtgBody t r)
+Writable (S.Zda t r) a v = (zdaWrong r ≡ 0) × Fits (zdaBody t r)
+Writable (S.Gsa t) a v = (gsaWrong a ≡ 0) × Fits (gsaBody t a)
+Writable (S.Gsv t) a v = (gsvFault v ≡ wrote 0) × Fits (gsvBody t v)
+Writable (S.Pr r) a v = (pirprWrong r ≡ 0) × Fits (pirprBody r)
+Writable (S.Tr r) a v = (pirtrWrong r ≡ 0) × Fits (pirtrBody r)
+Writable (S.Sr r) a v = (pirsrWrong r ≡ 0) × Fits (pirsrBody r)
+Writable (S.Pa r) a v = (pirpaWrong r ≡ 0) × Fits (pirpaBody r)
+Writable (S.Ta r) a v = (pirtaWrong r ≡ 0) × Fits (pirtaBody r)
+Writable (S.Sa r) a v = (pirsaWrong r ≡ 0) × Fits (pirsaBody r)
+Writable (S.Ea r) a v = (pireaWrong r ≡ 0) × Fits (pireaBody r)
+Writable S.Er a v = Fits pirerBody
+Writable (S.Refused n f) a v = Unit {0}
+
+abbrev pub CanBeWritten : Reading → Type 0
+CanBeWritten r = Writable (r .sentence) (r .gsa) (r .gsv)
+
+fits : (body : List ℕ) → length body ≤ 76 → Fits body
+fits body h = omega (arith, line-length body, h)
+
+-- The first field of a body with a known address has at least its five bytes.
+first-long : (n : ℕ) (s : List ℕ) → n ≤ length s → commaFree (take n s) ≡ true → n ≤ length (getD (fieldsOf s) 0 [])
+unfolding commaFree fieldsOf onto
+first-long zero s h c = omega arith
+first-long (suc n) [] h c = let z : ⊥ = omega arith in absurd z
+first-long (suc n) (b ∷ s) h c =
+    let r = first-field s in
+    let i = first-long n s (omega arith) (and-right (not (eqb b 44)) _ c) in
+    rw (not-true (eqb b 44) (and-left _ _ c)) (longer (fieldsOf s) r i)
+  where
+    longer : (fs : List (List ℕ)) → First fs → n ≤ length (getD fs 0 []) → suc n ≤ length (getD (onto b fs) 0 [])
+    longer fs r i = go (r .0) (r .1) (rw (r .2) at i) (r .2)
+      where
+        go : (g : List ℕ) (gs : List (List ℕ)) → n ≤ length g → fs ≡ g ∷ gs → suc n ≤ length (getD (onto b fs) 0 [])
+        go g gs j q = rw q (omega (arith, j))
+
+address-long : (body : List ℕ) (t : Talker) (k : Kind) → addressOf body ≡ Standard t k → 5 ≤ length (getD (fieldsOf body) 0 [])
+unfolding addressOf
+address-long body t k e = go (eqb (getD body 5 0) 44 && commaFree (take 5 body)) refl e
+  where
+    no : Unknown ≡ Standard t k → ⊥
+    no q = let z : _≡_ {A = ℕ} 3 0 = ap unknownNo q in omega (arith, z)
+
+    long : 5 ≤ length body
+    long = by (leb 5 (length body)) refl
+      where
+        by : (b : Bool) → leb 5 (length body) ≡ b → 5 ≤ length body
+        by true q = leb-true 5 (length body) q
+        by false q = absurd (no (no-sixth body (omega (arith, leb-false 5 (length body) q)) ∙ e))
+
+    go : (b : Bool) → (eqb (getD body 5 0) 44 && commaFree (take 5 body)) ≡ b → pick b (knownOf (take 5 body)) Unknown ≡ Standard t k → 5 ≤ length (getD (fieldsOf body) 0 [])
+    go true q i = first-long 5 body long (and-right (eqb (getD body 5 0) 44) _ q)
+    go false q i = absurd (no i)
+
+-- A body is as long as its first field and the others with their commas.
+body-long : (body f : List ℕ) (fs : List (List ℕ)) → fieldsOf body ≡ f ∷ fs → length body ≡ length f + total fs
+body-long body f fs e = sym (ap length (ap joinAll (sym e) ∙ join-fields body)) ∙ joined-length f fs
+
+all-12 : (l : List (List ℕ)) → length l ≡ 12 → getD l 0 [] ∷ getD l 1 [] ∷ getD l 2 [] ∷ getD l 3 [] ∷ getD l 4 [] ∷ getD l 5 [] ∷ getD l 6 [] ∷ getD l 7 [] ∷ getD l 8 [] ∷ getD l 9 [] ∷ getD l 10 [] ∷ getD l 11 [] ∷ [] ≡ l
+all-12 [] h = let z : ⊥ = omega arith in absurd z
+all-12 (x0 ∷ []) h = let z : ⊥ = omega arith in absurd z
+all-12 (x0 ∷ x1 ∷ []) h = let z : ⊥ = omega arith in absurd z
+all-12 (x0 ∷ x1 ∷ x2 ∷ []) h = let z : ⊥ = omega arith in absurd z
+all-12 (x0 ∷ x1 ∷ x2 ∷ x3 ∷ []) h = let z : ⊥ = omega arith in absurd z
+all-12 (x0 ∷ x1 ∷ x2 ∷ x3 ∷ x4 ∷ []) h = let z : ⊥ = omega arith in absurd z
+all-12 (x0 ∷ x1 ∷ x2 ∷ x3 ∷ x4 ∷ x5 ∷ []) h = let z : ⊥ = omega arith in absurd z
+all-12 (x0 ∷ x1 ∷ x2 ∷ x3 ∷ x4 ∷ x5 ∷ x6 ∷ []) h = let z : ⊥ = omega arith in absurd z
+all-12 (x0 ∷ x1 ∷ x2 ∷ x3 ∷ x4 ∷ x5 ∷ x6 ∷ x7 ∷ []) h = let z : ⊥ = omega arith in absurd z
+all-12 (x0 ∷ x1 ∷ x2 ∷ x3 ∷ x4 ∷ x5 ∷ x6 ∷ x7 ∷ x8 ∷ []) h = let z : ⊥ = omega arith in absurd z
+all-12 (x0 ∷ x1 ∷ x2 ∷ x3 ∷ x4 ∷ x5 ∷ x6 ∷ x7 ∷ x8 ∷ x9 ∷ []) h = let z : ⊥ = omega arith in absurd z
+all-12 (x0 ∷ x1 ∷ x2 ∷ x3 ∷ x4 ∷ x5 ∷ x6 ∷ x7 ∷ x8 ∷ x9 ∷ x10 ∷ []) h = let z : ⊥ = omega arith in absurd z
+all-12 (x0 ∷ x1 ∷ x2 ∷ x3 ∷ x4 ∷ x5 ∷ x6 ∷ x7 ∷ x8 ∷ x9 ∷ x10 ∷ x11 ∷ []) h = refl
+all-12 (x0 ∷ x1 ∷ x2 ∷ x3 ∷ x4 ∷ x5 ∷ x6 ∷ x7 ∷ x8 ∷ x9 ∷ x10 ∷ x11 ∷ x ∷ l) h = let z : ⊥ = omega arith in absurd z
+
+all-14 : (l : List (List ℕ)) → length l ≡ 14 → getD l 0 [] ∷ getD l 1 [] ∷ getD l 2 [] ∷ getD l 3 [] ∷ getD l 4 [] ∷ getD l 5 [] ∷ getD l 6 [] ∷ getD l 7 [] ∷ getD l 8 [] ∷ getD l 9 [] ∷ getD l 10 [] ∷ getD l 11 [] ∷ getD l 12 [] ∷ getD l 13 [] ∷ [] ≡ l
+all-14 [] h = let z : ⊥ = omega arith in absurd z
+all-14 (x0 ∷ []) h = let z : ⊥ = omega arith in absurd z
+all-14 (x0 ∷ x1 ∷ []) h = let z : ⊥ = omega arith in absurd z
+all-14 (x0 ∷ x1 ∷ x2 ∷ []) h = let z : ⊥ = omega arith in absurd z
+all-14 (x0 ∷ x1 ∷ x2 ∷ x3 ∷ []) h = let z : ⊥ = omega arith in absurd z
+all-14 (x0 ∷ x1 ∷ x2 ∷ x3 ∷ x4 ∷ []) h = let z : ⊥ = omega arith in absurd z
+all-14 (x0 ∷ x1 ∷ x2 ∷ x3 ∷ x4 ∷ x5 ∷ []) h = let z : ⊥ = omega arith in absurd z
+all-14 (x0 ∷ x1 ∷ x2 ∷ x3 ∷ x4 ∷ x5 ∷ x6 ∷ []) h = let z : ⊥ = omega arith in absurd z
+all-14 (x0 ∷ x1 ∷ x2 ∷ x3 ∷ x4 ∷ x5 ∷ x6 ∷ x7 ∷ []) h = let z : ⊥ = omega arith in absurd z
+all-14 (x0 ∷ x1 ∷ x2 ∷ x3 ∷ x4 ∷ x5 ∷ x6 ∷ x7 ∷ x8 ∷ []) h = let z : ⊥ = omega arith in absurd z
+all-14 (x0 ∷ x1 ∷ x2 ∷ x3 ∷ x4 ∷ x5 ∷ x6 ∷ x7 ∷ x8 ∷ x9 ∷ []) h = let z : ⊥ = omega arith in absurd z
+all-14 (x0 ∷ x1 ∷ x2 ∷ x3 ∷ x4 ∷ x5 ∷ x6 ∷ x7 ∷ x8 ∷ x9 ∷ x10 ∷ []) h = let z : ⊥ = omega arith in absurd z
+all-14 (x0 ∷ x1 ∷ x2 ∷ x3 ∷ x4 ∷ x5 ∷ x6 ∷ x7 ∷ x8 ∷ x9 ∷ x10 ∷ x11 ∷ []) h = let z : ⊥ = omega arith in absurd z
+all-14 (x0 ∷ x1 ∷ x2 ∷ x3 ∷ x4 ∷ x5 ∷ x6 ∷ x7 ∷ x8 ∷ x9 ∷ x10 ∷ x11 ∷ x12 ∷ []) h = let z : ⊥ = omega arith in absurd z
+all-14 (x0 ∷ x1 ∷ x2 ∷ x3 ∷ x4 ∷ x5 ∷ x6 ∷ x7 ∷ x8 ∷ x9 ∷ x10 ∷ x11 ∷ x12 ∷ x13 ∷ []) h = refl
+all-14 (x0 ∷ x1 ∷ x2 ∷ x3 ∷ x4 ∷ x5 ∷ x6 ∷ x7 ∷ x8 ∷ x9 ∷ x10 ∷ x11 ∷ x12 ∷ x13 ∷ x ∷ l) h = let z : ⊥ = omega arith in absurd z
+
+all-17 : (l : List (List ℕ)) → length l ≡ 17 → getD l 0 [] ∷ getD l 1 [] ∷ getD l 2 [] ∷ getD l 3 [] ∷ getD l 4 [] ∷ getD l 5 [] ∷ getD l 6 [] ∷ getD l 7 [] ∷ getD l 8 [] ∷ getD l 9 [] ∷ getD l 10 [] ∷ getD l 11 [] ∷ getD l 12 [] ∷ getD l 13 [] ∷ getD l 14 [] ∷ getD l 15 [] ∷ getD l 16 [] ∷ [] ≡ l
+all-17 [] h = let z : ⊥ = omega arith in absurd z
+all-17 (x0 ∷ []) h = let z : ⊥ = omega arith in absurd z
+all-17 (x0 ∷ x1 ∷ []) h = let z : ⊥ = omega arith in absurd z
+all-17 (x0 ∷ x1 ∷ x2 ∷ []) h = let z : ⊥ = omega arith in absurd z
+all-17 (x0 ∷ x1 ∷ x2 ∷ x3 ∷ []) h = let z : ⊥ = omega arith in absurd z
+all-17 (x0 ∷ x1 ∷ x2 ∷ x3 ∷ x4 ∷ []) h = let z : ⊥ = omega arith in absurd z
+all-17 (x0 ∷ x1 ∷ x2 ∷ x3 ∷ x4 ∷ x5 ∷ []) h = let z : ⊥ = omega arith in absurd z
+all-17 (x0 ∷ x1 ∷ x2 ∷ x3 ∷ x4 ∷ x5 ∷ x6 ∷ []) h = let z : ⊥ = omega arith in absurd z
+all-17 (x0 ∷ x1 ∷ x2 ∷ x3 ∷ x4 ∷ x5 ∷ x6 ∷ x7 ∷ []) h = let z : ⊥ = omega arith in absurd z
+all-17 (x0 ∷ x1 ∷ x2 ∷ x3 ∷ x4 ∷ x5 ∷ x6 ∷ x7 ∷ x8 ∷ []) h = let z : ⊥ = omega arith in absurd z
+all-17 (x0 ∷ x1 ∷ x2 ∷ x3 ∷ x4 ∷ x5 ∷ x6 ∷ x7 ∷ x8 ∷ x9 ∷ []) h = let z : ⊥ = omega arith in absurd z
+all-17 (x0 ∷ x1 ∷ x2 ∷ x3 ∷ x4 ∷ x5 ∷ x6 ∷ x7 ∷ x8 ∷ x9 ∷ x10 ∷ []) h = let z : ⊥ = omega arith in absurd z
+all-17 (x0 ∷ x1 ∷ x2 ∷ x3 ∷ x4 ∷ x5 ∷ x6 ∷ x7 ∷ x8 ∷ x9 ∷ x10 ∷ x11 ∷ []) h = let z : ⊥ = omega arith in absurd z
+all-17 (x0 ∷ x1 ∷ x2 ∷ x3 ∷ x4 ∷ x5 ∷ x6 ∷ x7 ∷ x8 ∷ x9 ∷ x10 ∷ x11 ∷ x12 ∷ []) h = let z : ⊥ = omega arith in absurd z
+all-17 (x0 ∷ x1 ∷ x2 ∷ x3 ∷ x4 ∷ x5 ∷ x6 ∷ x7 ∷ x8 ∷ x9 ∷ x10 ∷ x11 ∷ x12 ∷ x13 ∷ []) h = let z : ⊥ = omega arith in absurd z
+all-17 (x0 ∷ x1 ∷ x2 ∷ x3 ∷ x4 ∷ x5 ∷ x6 ∷ x7 ∷ x8 ∷ x9 ∷ x10 ∷ x11 ∷ x12 ∷ x13 ∷ x14 ∷ []) h = let z : ⊥ = omega arith in absurd z
+all-17 (x0 ∷ x1 ∷ x2 ∷ x3 ∷ x4 ∷ x5 ∷ x6 ∷ x7 ∷ x8 ∷ x9 ∷ x10 ∷ x11 ∷ x12 ∷ x13 ∷ x14 ∷ x15 ∷ []) h = let z : ⊥ = omega arith in absurd z
+all-17 (x0 ∷ x1 ∷ x2 ∷ x3 ∷ x4 ∷ x5 ∷ x6 ∷ x7 ∷ x8 ∷ x9 ∷ x10 ∷ x11 ∷ x12 ∷ x13 ∷ x14 ∷ x15 ∷ x16 ∷ []) h = refl
+all-17 (x0 ∷ x1 ∷ x2 ∷ x3 ∷ x4 ∷ x5 ∷ x6 ∷ x7 ∷ x8 ∷ x9 ∷ x10 ∷ x11 ∷ x12 ∷ x13 ∷ x14 ∷ x15 ∷ x16 ∷ x ∷ l) h = let z : ⊥ = omega arith in absurd z
+
+fields-12 : (body : List ℕ) (t : Talker) (k : Kind) → addressOf body ≡ Standard t k → length (fieldsOf body) - 1 ≡ 12 → 5 + total (theFields body 1 ∷ theFields body 2 ∷ theFields body 3 ∷ theFields body 4 ∷ theFields body 5 ∷ theFields body 6 ∷ theFields body 7 ∷ theFields body 8 ∷ theFields body 9 ∷ theFields body 10 ∷ theFields body 11 ∷ theFields body 12 ∷ []) ≤ length body
+fields-12 body t k a c = go (r .0) (r .1) (r .2)
+  where
+    r : First (fieldsOf body)
+    r = first-field body
+
+    go : (f : List ℕ) (fs : List (List ℕ)) → fieldsOf body ≡ f ∷ fs → 5 + total (theFields body 1 ∷ theFields body 2 ∷ theFields body 3 ∷ theFields body 4 ∷ theFields body 5 ∷ theFields body 6 ∷ theFields body 7 ∷ theFields body 8 ∷ theFields body 9 ∷ theFields body 10 ∷ theFields body 11 ∷ theFields body 12 ∷ []) ≤ length body
+    go f fs q =
+        let l : length fs ≡ 12 = omega (arith, ap (λ (x : List (List ℕ)). length x) q, c) in
+        let g : 5 ≤ length f = rw q at (address-long body t k a) in
+        let s = ap (λ (x : List (List ℕ)). total x) (all-12 fs l) in
+        rw (body-long body f fs q, q) (omega (arith, g, s))
+
+fields-14 : (body : List ℕ) (t : Talker) (k : Kind) → addressOf body ≡ Standard t k → length (fieldsOf body) - 1 ≡ 14 → 5 + total (theFields body 1 ∷ theFields body 2 ∷ theFields body 3 ∷ theFields body 4 ∷ theFields body 5 ∷ theFields body 6 ∷ theFields body 7 ∷ theFields body 8 ∷ theFields body 9 ∷ theFields body 10 ∷ theFields body 11 ∷ theFields body 12 ∷ theFields body 13 ∷ theFields body 14 ∷ []) ≤ length body
+fields-14 body t k a c = go (r .0) (r .1) (r .2)
+  where
+    r : First (fieldsOf body)
+    r = first-field body
+
+    go : (f : List ℕ) (fs : List (List ℕ)) → fieldsOf body ≡ f ∷ fs → 5 + total (theFields body 1 ∷ theFields body 2 ∷ theFields body 3 ∷ theFields body 4 ∷ theFields body 5 ∷ theFields body 6 ∷ theFields body 7 ∷ theFields body 8 ∷ theFields body 9 ∷ theFields body 10 ∷ theFields body 11 ∷ theFields body 12 ∷ theFields body 13 ∷ theFields body 14 ∷ []) ≤ length body
+    go f fs q =
+        let l : length fs ≡ 14 = omega (arith, ap (λ (x : List (List ℕ)). length x) q, c) in
+        let g : 5 ≤ length f = rw q at (address-long body t k a) in
+        let s = ap (λ (x : List (List ℕ)). total x) (all-14 fs l) in
+        rw (body-long body f fs q, q) (omega (arith, g, s))
+
+fields-17 : (body : List ℕ) (t : Talker) (k : Kind) → addressOf body ≡ Standard t k → length (fieldsOf body) - 1 ≡ 17 → 5 + total (theFields body 1 ∷ theFields body 2 ∷ theFields body 3 ∷ theFields body 4 ∷ theFields body 5 ∷ theFields body 6 ∷ theFields body 7 ∷ theFields body 8 ∷ theFields body 9 ∷ theFields body 10 ∷ theFields body 11 ∷ theFields body 12 ∷ theFields body 13 ∷ theFields body 14 ∷ theFields body 15 ∷ theFields body 16 ∷ theFields body 17 ∷ []) ≤ length body
+fields-17 body t k a c = go (r .0) (r .1) (r .2)
+  where
+    r : First (fieldsOf body)
+    r = first-field body
+
+    go : (f : List ℕ) (fs : List (List ℕ)) → fieldsOf body ≡ f ∷ fs → 5 + total (theFields body 1 ∷ theFields body 2 ∷ theFields body 3 ∷ theFields body 4 ∷ theFields body 5 ∷ theFields body 6 ∷ theFields body 7 ∷ theFields body 8 ∷ theFields body 9 ∷ theFields body 10 ∷ theFields body 11 ∷ theFields body 12 ∷ theFields body 13 ∷ theFields body 14 ∷ theFields body 15 ∷ theFields body 16 ∷ theFields body 17 ∷ []) ≤ length body
+    go f fs q =
+        let l : length fs ≡ 17 = omega (arith, ap (λ (x : List (List ℕ)). length x) q, c) in
+        let g : 5 ≤ length f = rw q at (address-long body t k a) in
+        let s = ap (λ (x : List (List ℕ)). total x) (all-17 fs l) in
+        rw (body-long body f fs q, q) (omega (arith, g, s))
+
+-- The body of a talker's sentence, by its fields.
+standard-long : (t : Talker) (kind : List ℕ) (fs : List (List ℕ)) (n : ℕ) → length kind ≡ 3 → total fs ≤ n → length (joinFields (talkerText t ++ kind) fs) ≤ 5 + n
+standard-long t kind fs n h i = omega (arith, joined-length (talkerText t ++ kind) fs, address-five t kind h, i)
+
+module _ (body : List ℕ) (room : length body ≤ 76) where
+  standard-written : (t : Talker) (k : Kind) → addressOf body ≡ Standard t k → CanBeWritten (standardOf t k (length (fieldsOf body) - 1) (theFields body))
+  standard-written t K.Gga a =
+      TGga.write-read t (length (fieldsOf body) - 1) (theFields body) (λ (x : Sentence). CanBeWritten (aloneOf x)) (λ n f. tt)
+      (λ r c w u. (w, fits (ggaBody t r) (omega (arith, standard-long t (ascii "GGA") (ggaFields r) _ refl u, fields-14 body t K.Gga a c, room))))
+  standard-written t K.Rmc a =
+      TRmc.write-read t (length (fieldsOf body) - 1) (theFields body) (λ (x : Sentence). CanBeWritten (aloneOf x)) (λ n f. tt)
+      (λ r c w u. (w, fits (rmcBody t r) (omega (arith, standard-long t (ascii "RMC") (rmcFields r) _ refl u, fields-12 body t K.Rmc a c, room))))
+  standard-written t K.Gll a =
+      TGll.write-read t (length (fieldsOf body) - 1) (theFields body) (λ (x : Sentence). CanBeWritten (aloneOf x)) (λ n f. tt) (λ r c w. (w, fits (gllBody t r) (TGll.fits t r w)))
+  standard-written t K.Vtg a =
+      TVtg.write-read t (length (fieldsOf body) - 1) (theFields body) (λ (x : Sentence). CanBeWritten (aloneOf x)) (λ n f. tt) (λ r c w. (w, fits (vtgBody t r) (TVtg.fits t r w)))
+  standard-written t K.Zda a =
+      TZda.write-read t (length (fieldsOf body) - 1) (theFields body) (λ (x : Sentence). CanBeWritten (aloneOf x)) (λ n f. tt) (λ r c w. (w, fits (zdaBody t r) (TZda.fits t r w)))
+  standard-written t K.Gsa a =
+      TGsa.write-read t (length (fieldsOf body) - 1) (theFields body) (λ (x : Reading). CanBeWritten x) (λ n f. tt)
+      (λ r e c w u. (w, fits (gsaBody t r) (omega (arith, standard-long t (ascii "GSA") (gsaFields r) _ refl u, fields-17 body t K.Gsa a c, room))))
+  standard-written t K.Gsv a =
+      TGsvRead.write-read t (theFields body) (λ (x : Reading). CanBeWritten x) (λ n f. tt)
+      (λ r e g. (TGsvRead.fault-none r g, fits (gsvBody t r) (TGsv.fits t r))) (length (fieldsOf body) - 1)
+
+  maker-written : (k : Pir) → CanBeWritten (makerOf k (length (fieldsOf body) - 1) (theFields body))
+  maker-written P.Pr = TPirpr.write-read (length (fieldsOf body) - 1) (theFields body) (λ (x : Sentence). CanBeWritten (aloneOf x)) (λ n f. tt) (λ r c w. (w, fits (pirprBody r) (TPirpr.fits r w)))
+  maker-written P.Tr = TPirtr.write-read (length (fieldsOf body) - 1) (theFields body) (λ (x : Sentence). CanBeWritten (aloneOf x)) (λ n f. tt) (λ r c w. (w, fits (pirtrBody r) (TPirtr.fits r w)))
+  maker-written P.Sr = TPirsr.write-read (length (fieldsOf body) - 1) (theFields body) (λ (x : Sentence). CanBeWritten (aloneOf x)) (λ n f. tt) (λ r c w. (w, fits (pirsrBody r) (TPirsr.fits r w)))
+  maker-written P.Pa = TPirpa.write-read (length (fieldsOf body) - 1) (theFields body) (λ (x : Sentence). CanBeWritten (aloneOf x)) (λ n f. tt) (λ r c w. (w, fits (pirpaBody r) (TPirpa.fits r w)))
+  maker-written P.Ta = TPirta.write-read (length (fieldsOf body) - 1) (theFields body) (λ (x : Sentence). CanBeWritten (aloneOf x)) (λ n f. tt) (λ r c w. (w, fits (pirtaBody r) (TPirta.fits r w)))
+  maker-written P.Sa = TPirsa.write-read (length (fieldsOf body) - 1) (theFields body) (λ (x : Sentence). CanBeWritten (aloneOf x)) (λ n f. tt) (λ r c w. (w, fits (pirsaBody r) (TPirsa.fits r w)))
+  maker-written P.Ea = TPirea.write-read (length (fieldsOf body) - 1) (theFields body) (λ (x : Sentence). CanBeWritten (aloneOf x)) (λ n f. tt) (λ r c w. (w, fits (pireaBody r) (TPirea.fits r w)))
+  maker-written P.Er = TPirer.write-read (length (fieldsOf body) - 1) (theFields body) (λ (x : Sentence). CanBeWritten (aloneOf x)) (λ n f. tt) (fits pirerBody TPirer.fits)
+
+  addressed-written : (a : Address) → addressOf body ≡ a → CanBeWritten (addressed a (length (fieldsOf body) - 1) (theFields body))
+  addressed-written (Standard t k) e = standard-written t k e
+  addressed-written (Maker k) e = maker-written k
+  addressed-written Unknown e = tt
+
+  body-written : CanBeWritten (readBody body)
+  unfolding readBody
+  body-written = addressed-written (addressOf body) refl
+
+-- What the line reader gives can be written.
+pub read-can-be-written : (l : List ℕ) → CanBeWritten (readLine l)
+unfolding readLine
+read-can-be-written l = go (eqb (lineRefusal l) 0) refl
+  where
+    go : (b : Bool) → eqb (lineRefusal l) 0 ≡ b → CanBeWritten (pick b (readBody (bodyOf l)) (aloneOf (S.Refused (lineRefusal l) 0)))
+    go true q = body-written (bodyOf l) (accepted l (eqb-true (lineRefusal l) 0 q) .0 .room)
+    go false q = tt
