@@ -1,0 +1,127 @@
+"""The proved writers, by way of the program scribe, against the second program: seeded records, every room, rows that are none."""
+import functools
+import operator
+
+from programs import run
+from test_second import generated, second
+
+SEEDS = (21, 22, 23)
+COUNT = 4000
+KINDS = {"GGA", "GLL", "GSA", "GSV", "RMC", "VTG", "ZDA", "PIRPR", "PIRTR", "PIRSR", "PIRER", "PIRPA", "PIRTA", "PIRSA", "PIREA"}
+# Kinds whose records can make a line of over 82 bytes.
+LONG = {"GGA", "RMC", "GSA"}
+
+
+def kind_of(row):
+    address = row.split()[0].decode()
+    return address if address.startswith("PIR") else address[2:]
+
+
+def told_mask(row):
+    """The GPS mask that a row's record has, or None."""
+    words = row.split()
+    if words[0] == b"PIRSA":
+        return int(words[2])
+    return int(words[3]) if words[0] == b"PIRSR" and words[2] != b"0" else None
+
+
+def can_be_said(row):
+    """Whether a record can hold the row's GPS mask: each of its 32 bits may stand, so no number of 32 bits is outside its range."""
+    mask = told_mask(row)
+    return mask is None or 0 <= mask <= 0xFFFFFFFF
+
+
+def answers(rows):
+    out, said = run("scribe", b"".join(row + b"\n" for row in rows))
+    assert said == b"" and out.endswith(b"\n")
+    ours = out.splitlines()
+    assert len(ours) == len(rows)
+    return ours
+
+
+def agreed(rows):
+    """What both programs answer to the rows, once every answer is seen to be the same."""
+    ours = answers(rows)
+    theirs = second("write", b"".join(row + b"\n" for row in rows)).splitlines()
+    for row, left, right in zip(rows, ours, theirs, strict=True):
+        assert left == right, (row, left, right)
+    return ours
+
+
+def seeded():
+    """The rows of all seeds whose masks a record can hold."""
+    rows = [row for seed in SEEDS for row in generated("write", COUNT, seed).splitlines()]
+    assert len(rows) == COUNT * len(SEEDS)
+    kept = [row for row in rows if can_be_said(row)]
+    assert 0 < len(rows) - len(kept) < len(rows) * 0.06
+    return kept
+
+
+def short(answer):
+    """`ok`, or the number of a refusal."""
+    words = answer.split()
+    return "ok" if words[0] == b"ok" else int(words[1])
+
+
+def test_every_answer_is_the_second_programs():
+    rows = seeded()
+    ours = agreed(rows)
+    assert b"touched" not in ours and b"no row" not in ours
+    met = {kind: {short(a) for row, a in zip(rows, ours) if kind_of(row) == kind} for kind in KINDS}
+    for kind in KINDS:
+        expected = {"ok", 5, 8} | ({1} if kind in LONG else set())
+        assert met[kind] == expected - ({5} if kind == "PIRER" else set()), (kind, met[kind])
+
+
+def test_line_0_is_said_of_gsv_alone():
+    rows = seeded()
+    at_0 = {(kind_of(row), a) for row, a in zip(rows, answers(rows)) if a.startswith(b"refused 5 0 ")}
+    assert at_0 == {("GSV", b"refused 5 0 0")}, at_0
+
+
+def test_every_room():
+    rows = seeded()
+    sound = {kind: [] for kind in KINDS}
+    for row, answer in zip(rows, answers(rows)):
+        if short(answer) == "ok" and len(sound[kind_of(row)]) < 3:
+            sound[kind_of(row)].append((row.split(), len(answer[3:]) // 2, answer))
+    asked, expected = [], []
+    for kind in KINDS:
+        assert len(sound[kind]) == 3, kind
+        for words, length, answer in sound[kind]:
+            for room in range(length + 3):
+                asked.append(b" ".join([words[0], b"%d" % room, *words[2:]]))
+                expected.append(answer if room >= length else b"refused 8 1 0")
+    assert agreed(asked) == expected
+
+
+def written(body):
+    """The answer `ok` with the line around a body."""
+    line = b"$%s*%02X\r\n" % (body, functools.reduce(operator.xor, body))
+    return b"ok " + line.hex().encode()
+
+
+def test_rows_that_are_none():
+    sound = b"PIREA 82 17"
+    none = [b"", b"PIREA", b"PIREA 82", b"PIREA 82 17 0", b"PIREA 82  17", b"PIREA 82 17 ", b" " + sound, b"PIREA 82 x", b"PIREA 82 -",
+            b"PIREA 82 1-7", b"PIREA -1 17", b"PIRXA 82 17", b"GPGGB 82 17", b"pirea 82 17", b"PIREA,82 17", sound + b"\r",
+            sound + b" 0" * 60]
+    for row, answer in zip(none, answers(none), strict=True):
+        assert answer == b"no row", row
+    assert answers([none[0], sound, none[1], sound])[1::2] == [written(b"PIREA,17")] * 2
+
+
+def test_numbers_too_wide_for_a_record():
+    plain = [b"-1", b"256", b"4294967296", b"4294967313", b"18446744073709551633", b"-4294967279", b"9" * 60]
+    signed = [b"840", b"-840", b"2147483648", b"-2147483648", b"-2147483649", b"4294967296", b"-4294967296", b"-4294967297", b"9" * 60]
+    assert set(answers([b"PIREA 82 " + wide for wide in plain])) == {b"refused 5 1 1"}
+    assert set(answers([b"PIRTA 82 0 " + wide for wide in signed])) == {b"refused 5 1 2"}
+
+
+def test_a_rest_without_lf_is_no_row():
+    assert run("scribe", b"PIRER 82\nPIRER 82") == (written(b"PIRER,0") + b"\n", b"")
+
+
+def test_a_row_longer_than_the_buffer_ends_the_program():
+    out, said = run("scribe", b"PIRER 82\n" + b"x" * 70000 + b"\nPIRER 82\n")
+    assert out == written(b"PIRER,0") + b"\n" and b"too long" in said
