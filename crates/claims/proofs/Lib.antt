@@ -4,3 +4,5 @@ pub mod Determined
 pub mod DeterminedReading
 pub mod Rows
 pub mod Rewriting
+pub mod Writing
+pub mod Lengths

@@ -1,0 +1,112 @@
+-- Which kinds can pass 82 bytes: GGA, RMC and GSA, each shown by a record in range; the others cannot (`fits` of each kind). And no writer
+-- with one constant line meets its contract: two records are written as different bytes.
+use Prim.Native.Nat.{ℕ, _<_}
+use mathlib.Core.Path.{_≡_, refl, sym, ap, _∙_}
+use mathlib.Core.List.{List, [], _∷_}
+use mathlib.Core.Bool.{Bool, true, false}
+use native.Mathlib.Omega.{arith}
+use lib.Dec.{lit<}
+use lib.IntN.{pos, negsuc}
+use lib.ListN.{length, replicate}
+use Rattle.digits.specs.Decimal.{printFixed}
+use Rattle.line.specs.Line.{asLine}
+use Rattle.address.specs.declared.Talker.the-variants.{Gp}
+use Rattle.calendar.specs.Calendar.{leapYear, daysIn, isDate}
+use Rattle.fields.specs.Fields.{joinFields}
+use Rattle.forms.specs.Letters.{isIn}
+use Rattle.forms.specs.Plain.{fractionText, numberText, plainText, widthOf}
+use Rattle.records.specs.Wrong.{firstWrong, nearOf}
+use Rattle.records.specs.declared.CodeTold.{CodeTold}
+use Rattle.records.specs.declared.Gga.{Gga}
+use Rattle.records.specs.declared.Gsa.{Gsa}
+use Rattle.records.specs.declared.Rmc.{Rmc}
+use Rattle.records.specs.declared.Reading.{Reading}
+use Rattle.records.specs.declared.Sentence.{Sentence}
+use Rattle.records.specs.declared.Sentence.the-variants as S
+use Rattle.records.specs.declared.values.Maybe.{Maybe}
+use Rattle.records.specs.declared.values.Number.{Number}
+use Rattle.ranges.specs.Ranges.{letterWrong, outside, placeWrong, rangeWrong, signedWrong, sixWrong}
+use Rattle.reading.specs.Lines.{readLine}
+use Rattle.tripscom.proofs.Pirea as TPirea
+use Rattle.writecom.specs.Pirea.{pireaBody, pireaWrong}
+use Rattle.writenav.specs.Gga.{ggaBody, ggaFields, ggaWrong}
+use Rattle.writenav.specs.Rmc.{rmcBody, rmcFields, rmcWrong}
+use Rattle.writesat.specs.Gsa.{gsaBody, gsaFields, gsaWrong}
+
+-- Numbers of six digits before the point and three behind it.
+abbrev pub most : Number
+most = record { there = true; value = 999999999 }
+
+abbrev pub longGga : Gga
+longGga =
+    record {
+      time = record { there = true; value = 0 };
+      place = record { there = true; lat = pos 0; lon = pos 0 };
+      quality = 1;
+      satellites = record { there = true; value = 5 };
+      hdop = most;
+      altitude = record { there = true; value = negsuc 999999998 };
+      geoid = record { there = true; value = negsuc 999999998 };
+      age = most;
+      station = record { there = true; value = 0 };
+    }
+
+pub gga-can-pass : (ggaWrong longGga ≡ 0) × (82 < length (asLine (ggaBody Gp longGga)))
+unfolding ggaWrong ggaFields firstWrong nearOf rangeWrong outside placeWrong signedWrong joinFields numberText plainText widthOf fractionText printFixed
+gga-can-pass = (refl, lit< tt)
+
+abbrev pub longRmc : Rmc
+longRmc =
+    record {
+      time = record { there = true; value = 0 };
+      status = 65;
+      place = record { there = true; lat = pos 0; lon = pos 0 };
+      speed = record { there = true; value = 999999999 };
+      course = record { there = true; value = 359999 };
+      date = record { there = true; day = 15; month = 11; year = 2026 };
+      variation = record { there = true; value = pos 179999 };
+      mode = 65;
+    }
+
+pub rmc-can-pass : (rmcWrong longRmc ≡ 0) × (82 < length (asLine (rmcBody Gp longRmc)))
+unfolding rmcWrong rmcFields firstWrong nearOf rangeWrong outside placeWrong signedWrong sixWrong isDate daysIn leapYear letterWrong isIn joinFields numberText plainText widthOf fractionText printFixed
+rmc-can-pass = (refl, lit< tt)
+
+abbrev pub longGsa : Gsa
+longGsa = record { selection = 65; fix = 3; satellites = replicate 12 (record { there = true; value = 5 }); pdop = most; hdop = most; vdop = most }
+
+pub gsa-can-pass : (gsaWrong longGsa ≡ 0) × (82 < length (asLine (gsaBody Gp longGsa)))
+unfolding gsaWrong gsaFields firstWrong nearOf rangeWrong outside letterWrong isIn joinFields numberText plainText widthOf fractionText printFixed
+gsa-can-pass = (refl, lit< tt)
+
+-- One line is not written for two records: what differs when read differs when written.
+pub different-bytes : (l m : List ℕ) (r s : Reading) → readLine l ≡ r → readLine m ≡ s → (r ≡ s → ⊥) → l ≡ m → ⊥
+different-bytes l m r s e f h q = h (sym e ∙ ap readLine q ∙ f)
+
+abbrev pub code : ℕ → CodeTold
+code n = record { code = n }
+
+abbrev codeOf : Sentence → ℕ
+codeOf (S.Ea r) = r .code
+codeOf (S.Gga t r) = 0
+codeOf (S.Gll t r) = 0
+codeOf (S.Gsa t) = 0
+codeOf (S.Gsv t) = 0
+codeOf (S.Rmc t r) = 0
+codeOf (S.Vtg t r) = 0
+codeOf (S.Zda t r) = 0
+codeOf (S.Pr r) = 0
+codeOf (S.Tr r) = 0
+codeOf (S.Sr r) = 0
+codeOf S.Er = 0
+codeOf (S.Pa r) = 0
+codeOf (S.Ta r) = 0
+codeOf (S.Sa r) = 0
+codeOf (S.Refused n f) = 0
+
+pub no-constant-writer : (line : List ℕ) → asLine (pireaBody (code 0)) ≡ line → asLine (pireaBody (code 1)) ≡ line → ⊥
+unfolding pireaWrong firstWrong nearOf outside
+no-constant-writer line e f =
+    different-bytes (asLine (pireaBody (code 0))) (asLine (pireaBody (code 1))) _ _ (TPirea.read-write (code 0) refl) (TPirea.read-write (code 1) refl)
+    (λ q. let z : _≡_ {A = ℕ} 0 1 = ap (λ (r : Reading). codeOf (r .sentence)) q in omega (arith, z))
+    (e ∙ sym f)

@@ -1,0 +1,200 @@
+-- The claims about writing, each under a plain sentence. `Writes` is what every writer's contract says: what it answers, and every byte that
+-- it leaves.
+use Prim.Native.Nat.{ℕ, _≤_, _<_}
+use mathlib.Core.Path.{_≡_, refl, sym, ap, _∙_, subst}
+use mathlib.Core.List.{List, [], _∷_, _++_}
+use mathlib.Core.Bool.{Bool, true, false}
+use native.Mathlib.Omega.{arith}
+use lib.Dec.{eqb, ltb, lit<}
+use lib.IntN.{pos}
+use lib.ListN.{length, take, drop}
+use lib.Seq.{take-at, drop-at}
+use borrow.Author.Tests.{eqb-true, eqb-false, ltb-false}
+use Rattle.line.specs.Line.{asLine, bodyOf, lineRefusal}
+use Rattle.address.specs.declared.Talker.{Talker}
+use Rattle.address.specs.declared.Talker.the-variants.{Gp}
+use Rattle.forms.specs.Got.{pick}
+use Rattle.records.specs.declared.Reading.{Reading}
+use Rattle.records.specs.declared.Sentence.{Sentence}
+use Rattle.records.specs.declared.Sentence.the-variants as S
+use Rattle.records.specs.Blank.{aloneOf}
+use Rattle.reading.specs.Lines.{readBody, readLine, refusalOf}
+use Rattle.sealing.specs.declared.Written.{Written}
+use Rattle.sealing.specs.Written.{refused, wrote, faultAt, writtenOf, leftOf, Writes}
+use Rattle.sealing.proofs.Sealing.{line-length}
+use Rattle.writesat.specs.Gsa.{gsaWrong, gsaBody}
+use Rattle.writesat.specs.Gsv.{gsvFault, gsvBody}
+use Rattle.tripssat.proofs.Gsa as TGsa
+use Rattle.tripssat.proofs.Gsv as TGsv
+use Rattle.claims.proofs.Rewriting as Rewriting
+use Rattle.records.specs.declared.Gga.{Gga}
+use Rattle.writenav.specs.Gga.{ggaWrong, ggaBody}
+use Rattle.tripsnav.proofs.Gga as TGga
+use Rattle.records.specs.declared.Gll.{Gll}
+use Rattle.writenav.specs.Gll.{gllWrong, gllBody}
+use Rattle.tripsnav.proofs.Gll as TGll
+use Rattle.records.specs.declared.Rmc.{Rmc}
+use Rattle.writenav.specs.Rmc.{rmcWrong, rmcBody}
+use Rattle.tripsnav.proofs.Rmc as TRmc
+use Rattle.records.specs.declared.Vtg.{Vtg}
+use Rattle.writenav.specs.Vtg.{vtgWrong, vtgBody}
+use Rattle.tripsnav.proofs.Vtg as TVtg
+use Rattle.records.specs.declared.Zda.{Zda}
+use Rattle.writenav.specs.Zda.{zdaWrong, zdaBody}
+use Rattle.tripsnav.proofs.Zda as TZda
+use Rattle.records.specs.declared.Gsa.{Gsa}
+use Rattle.records.specs.declared.Gsv.{Gsv}
+use Rattle.records.specs.declared.PortAsked.{PortAsked}
+use Rattle.writecom.specs.Pirpr.{pirprWrong, pirprBody}
+use Rattle.tripscom.proofs.Pirpr as TPirpr
+use Rattle.records.specs.declared.DatumAsked.{DatumAsked}
+use Rattle.writecom.specs.Pirtr.{pirtrWrong, pirtrBody}
+use Rattle.tripscom.proofs.Pirtr as TPirtr
+use Rattle.records.specs.declared.MasksAsked.{MasksAsked}
+use Rattle.writecom.specs.Pirsr.{pirsrWrong, pirsrBody}
+use Rattle.tripscom.proofs.Pirsr as TPirsr
+use Rattle.records.specs.declared.PortTold.{PortTold}
+use Rattle.writecom.specs.Pirpa.{pirpaWrong, pirpaBody}
+use Rattle.tripscom.proofs.Pirpa as TPirpa
+use Rattle.records.specs.declared.DatumTold.{DatumTold}
+use Rattle.writecom.specs.Pirta.{pirtaWrong, pirtaBody}
+use Rattle.tripscom.proofs.Pirta as TPirta
+use Rattle.records.specs.declared.MasksTold.{MasksTold}
+use Rattle.writecom.specs.Pirsa.{pirsaWrong, pirsaBody}
+use Rattle.tripscom.proofs.Pirsa as TPirsa
+use Rattle.records.specs.declared.CodeTold.{CodeTold}
+use Rattle.writecom.specs.Pirea.{pireaWrong, pireaBody}
+use Rattle.tripscom.proofs.Pirea as TPirea
+use Rattle.writecom.specs.Pirer.{pirerBody}
+use Rattle.tripscom.proofs.Pirer as TPirer
+
+module _ {fault : Written} {body out : List ℕ} {answer : Written} {left : List ℕ} (w : Writes fault body out answer left) where
+  -- A refusal leaves every byte of the output.
+  pub refusal-leaves : (answer .no ≡ 0 → ⊥) → left ≡ out
+  unfolding leftOf
+  refusal-leaves h = w .leaves ∙ go (eqb (writtenOf fault body (length out) .no) 0) refl
+    where
+      go : (t : Bool) → eqb (writtenOf fault body (length out) .no) 0 ≡ t → pick t (asLine body ++ drop (length (asLine body)) out) out ≡ out
+      go true e = absurd (h (ap (λ (x : Written). x .no) (w .answers) ∙ eqb-true (writtenOf fault body (length out) .no) 0 e))
+      go false e = refl
+
+  -- What a writer that answers a length has found: a record without a fault, a line of at most 82 bytes, and room for it.
+  pub record Done : Type 0 where
+    pub good : fault .no ≡ 0
+    pub most : length (asLine body) ≤ 82
+    pub room : length (asLine body) ≤ length out
+    pub long : answer .length ≡ length (asLine body)
+    pub bytes : left ≡ asLine body ++ drop (length (asLine body)) out
+
+  pub success : answer .no ≡ 0 → Done
+  unfolding writtenOf leftOf
+  success h = go (eqb (fault .no) 0) (ltb 82 (length (asLine body))) (ltb (length out) (length (asLine body))) refl refl refl (w .answers) (w .leaves)
+    where
+      go : (a b c : Bool) → eqb (fault .no) 0 ≡ a → ltb 82 (length (asLine body)) ≡ b → ltb (length out) (length (asLine body)) ≡ c
+          → answer ≡ pick a (pick b (refused 1 1 0) (pick c (refused 8 1 0) (wrote (length (asLine body))))) fault
+          → left ≡ pick (eqb (pick a (pick b (refused 1 1 0) (pick c (refused 8 1 0) (wrote (length (asLine body))))) fault .no) 0) (asLine body ++ drop (length (asLine body)) out) out
+          → Done
+      go false b c p q s i j = absurd (eqb-false (fault .no) 0 p (sym (ap (λ (x : Written). x .no) i) ∙ h))
+      go true true c p q s i j = let z : _≡_ {A = ℕ} 1 0 = sym (ap (λ (x : Written). x .no) i) ∙ h in let y : ⊥ = omega (arith, z) in absurd y
+      go true false true p q s i j = let z : _≡_ {A = ℕ} 8 0 = sym (ap (λ (x : Written). x .no) i) ∙ h in let y : ⊥ = omega (arith, z) in absurd y
+      go true false false p q s i j =
+          record {
+            good = eqb-true (fault .no) 0 p;
+            most = ltb-false 82 (length (asLine body)) q;
+            room = ltb-false (length out) (length (asLine body)) s;
+            long = ap (λ (x : Written). x .length) i;
+            bytes = j;
+          }
+
+  -- On success the first bytes of the output are the line, and the bytes past it stay.
+  pub line-written : answer .no ≡ 0 → take (answer .length) left ≡ asLine body
+  line-written h = let d = success h in rw (d .long, d .bytes) (take-at (asLine body) (drop (length (asLine body)) out) (length (asLine body)) refl)
+
+  pub rest-stays : answer .no ≡ 0 → drop (answer .length) left ≡ drop (answer .length) out
+  rest-stays h = let d = success h in rw (d .long, d .bytes) (drop-at (asLine body) (drop (length (asLine body)) out) (length (asLine body)) refl)
+
+short : (body : List ℕ) → length (asLine body) ≤ 82 → length body ≤ 76
+short body h = omega (arith, line-length body, h)
+
+fault-zero : (w : ℕ) → faultAt w .no ≡ 0 → w ≡ 0
+unfolding faultAt
+fault-zero w e = go (eqb w 0) refl e
+  where
+    go : (t : Bool) → eqb w 0 ≡ t → pick t (wrote 0) (refused 5 1 w) .no ≡ 0 → w ≡ 0
+    go true q i = eqb-true w 0 q
+    go false q i = let z : ⊥ = omega (arith, i) in absurd z
+
+-- A line that reads passes the line rule, so 1 and 2 never come from our own writers.
+pub read-passes : (l : List ℕ) → refusalOf (readLine l .sentence) .no ≡ 0 → lineRefusal l ≡ 0
+unfolding readLine
+read-passes l e = go (eqb (lineRefusal l) 0) refl e
+  where
+    go : (t : Bool) → eqb (lineRefusal l) 0 ≡ t → refusalOf (pick t (readBody (bodyOf l)) (aloneOf (S.Refused (lineRefusal l) 0)) .sentence) .no ≡ 0 → lineRefusal l ≡ 0
+    go true q i = eqb-true (lineRefusal l) 0 q
+    go false q i = i
+
+-- What we write reads back as the same record, and talker: for each writer, where it answers a length, the bytes that it wrote read as the
+-- record that it was given.
+pub gga-back : (t : Talker) (r : Gga) {out left : List ℕ} {answer : Written} → Writes (faultAt (ggaWrong r)) (ggaBody t r) out answer left
+    → answer .no ≡ 0 → readLine (take (answer .length) left) ≡ aloneOf (S.Gga t r)
+gga-back t r w h = let d = success w h in rw (line-written w h) (TGga.read-write t r (fault-zero (ggaWrong r) (d .good)) (short (ggaBody t r) (d .most)))
+
+pub gll-back : (t : Talker) (r : Gll) {out left : List ℕ} {answer : Written} → Writes (faultAt (gllWrong r)) (gllBody t r) out answer left
+    → answer .no ≡ 0 → readLine (take (answer .length) left) ≡ aloneOf (S.Gll t r)
+gll-back t r w h = let d = success w h in rw (line-written w h) (TGll.read-write t r (fault-zero (gllWrong r) (d .good)))
+
+pub rmc-back : (t : Talker) (r : Rmc) {out left : List ℕ} {answer : Written} → Writes (faultAt (rmcWrong r)) (rmcBody t r) out answer left
+    → answer .no ≡ 0 → readLine (take (answer .length) left) ≡ aloneOf (S.Rmc t r)
+rmc-back t r w h = let d = success w h in rw (line-written w h) (TRmc.read-write t r (fault-zero (rmcWrong r) (d .good)) (short (rmcBody t r) (d .most)))
+
+pub vtg-back : (t : Talker) (r : Vtg) {out left : List ℕ} {answer : Written} → Writes (faultAt (vtgWrong r)) (vtgBody t r) out answer left
+    → answer .no ≡ 0 → readLine (take (answer .length) left) ≡ aloneOf (S.Vtg t r)
+vtg-back t r w h = let d = success w h in rw (line-written w h) (TVtg.read-write t r (fault-zero (vtgWrong r) (d .good)))
+
+pub zda-back : (t : Talker) (r : Zda) {out left : List ℕ} {answer : Written} → Writes (faultAt (zdaWrong r)) (zdaBody t r) out answer left
+    → answer .no ≡ 0 → readLine (take (answer .length) left) ≡ aloneOf (S.Zda t r)
+zda-back t r w h = let d = success w h in rw (line-written w h) (TZda.read-write t r (fault-zero (zdaWrong r) (d .good)))
+
+pub gsa-back : (t : Talker) (r : Gsa) → length (r .satellites) ≡ 12 → {out left : List ℕ} {answer : Written} → Writes (faultAt (gsaWrong r)) (gsaBody t r) out answer left
+    → answer .no ≡ 0 → readLine (take (answer .length) left) ≡ TGsa.theGsa t r
+gsa-back t r n w h = let d = success w h in rw (line-written w h) (TGsa.read-write t r n (fault-zero (gsaWrong r) (d .good)) (short (gsaBody t r) (d .most)))
+
+pub gsv-back : (t : Talker) (r : Gsv) → length (r .entries) ≡ 4 → {out left : List ℕ} {answer : Written} → Writes (gsvFault r) (gsvBody t r) out answer left
+    → answer .no ≡ 0 → readLine (take (answer .length) left) ≡ TGsv.theGsv t r
+gsv-back t r n w h = let d = success w h in rw (line-written w h) (TGsv.read-write t r n (TGsv.good-is r (d .good)))
+
+pub pirpr-back : (r : PortAsked) {out left : List ℕ} {answer : Written} → Writes (faultAt (pirprWrong r)) (pirprBody r) out answer left
+    → answer .no ≡ 0 → readLine (take (answer .length) left) ≡ aloneOf (S.Pr r)
+pirpr-back r w h = let d = success w h in rw (line-written w h) (TPirpr.read-write r (fault-zero (pirprWrong r) (d .good)))
+
+pub pirtr-back : (r : DatumAsked) {out left : List ℕ} {answer : Written} → Writes (faultAt (pirtrWrong r)) (pirtrBody r) out answer left
+    → answer .no ≡ 0 → readLine (take (answer .length) left) ≡ aloneOf (S.Tr r)
+pirtr-back r w h = let d = success w h in rw (line-written w h) (TPirtr.read-write r (fault-zero (pirtrWrong r) (d .good)))
+
+pub pirsr-back : (r : MasksAsked) {out left : List ℕ} {answer : Written} → Writes (faultAt (pirsrWrong r)) (pirsrBody r) out answer left
+    → answer .no ≡ 0 → readLine (take (answer .length) left) ≡ aloneOf (S.Sr r)
+pirsr-back r w h = let d = success w h in rw (line-written w h) (TPirsr.read-write r (fault-zero (pirsrWrong r) (d .good)))
+
+pub pirpa-back : (r : PortTold) {out left : List ℕ} {answer : Written} → Writes (faultAt (pirpaWrong r)) (pirpaBody r) out answer left
+    → answer .no ≡ 0 → readLine (take (answer .length) left) ≡ aloneOf (S.Pa r)
+pirpa-back r w h = let d = success w h in rw (line-written w h) (TPirpa.read-write r (fault-zero (pirpaWrong r) (d .good)))
+
+pub pirta-back : (r : DatumTold) {out left : List ℕ} {answer : Written} → Writes (faultAt (pirtaWrong r)) (pirtaBody r) out answer left
+    → answer .no ≡ 0 → readLine (take (answer .length) left) ≡ aloneOf (S.Ta r)
+pirta-back r w h = let d = success w h in rw (line-written w h) (TPirta.read-write r (fault-zero (pirtaWrong r) (d .good)))
+
+pub pirsa-back : (r : MasksTold) {out left : List ℕ} {answer : Written} → Writes (faultAt (pirsaWrong r)) (pirsaBody r) out answer left
+    → answer .no ≡ 0 → readLine (take (answer .length) left) ≡ aloneOf (S.Sa r)
+pirsa-back r w h = let d = success w h in rw (line-written w h) (TPirsa.read-write r (fault-zero (pirsaWrong r) (d .good)))
+
+pub pirea-back : (r : CodeTold) {out left : List ℕ} {answer : Written} → Writes (faultAt (pireaWrong r)) (pireaBody r) out answer left
+    → answer .no ≡ 0 → readLine (take (answer .length) left) ≡ aloneOf (S.Ea r)
+pirea-back r w h = let d = success w h in rw (line-written w h) (TPirea.read-write r (fault-zero (pireaWrong r) (d .good)))
+
+pub pirer-back : {out left : List ℕ} {answer : Written} → Writes (faultAt 0) pirerBody out answer left → answer .no ≡ 0 → readLine (take (answer .length) left) ≡ aloneOf S.Er
+pirer-back w h = rw (line-written w h) TPirer.read-write
+
+-- What was read can be written: it is in range, and its line fits.
+pub read-can-be-written : (l : List ℕ) → Rewriting.CanBeWritten (readLine l)
+read-can-be-written = Rewriting.read-can-be-written
+
