@@ -6,3 +6,4 @@ pub mod Rows
 pub mod Rewriting
 pub mod Writing
 pub mod Lengths
+pub mod DeterminedWriting

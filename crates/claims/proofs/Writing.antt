@@ -197,4 +197,3 @@ pirer-back w h = rw (line-written w h) TPirer.read-write
 -- What was read can be written: it is in range, and its line fits.
 pub read-can-be-written : (l : List ℕ) → Rewriting.CanBeWritten (readLine l)
 read-can-be-written = Rewriting.read-can-be-written
-

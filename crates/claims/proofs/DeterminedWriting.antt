@@ -1,0 +1,253 @@
+-- The functions that write: any two results that a contract permits are equal. A put answers a place and leaves a buffer, both as one
+-- definition says; a writer answers and leaves the output as `Writes` says.
+use Prim.Native.Nat.{ℕ, _%_}
+use mathlib.Core.Path.{_≡_, sym, ap, _∙_}
+use mathlib.Core.List.{List, [], _∷_, _++_}
+use mathlib.Core.Bool.{Bool}
+use lib.IntN.{ℤ, natAbs}
+use lib.ListN.{take}
+use Rattle.address.specs.declared.Talker.{Talker}
+use Rattle.digits.specs.Decimal.{printFixed}
+use Rattle.forms.specs.Plain.{numberText, plainText}
+use Rattle.calendar.specs.Time.{clockText}
+use Rattle.calendar.specs.Zone.{fourText}
+use Rattle.masks.specs.Masks.{printHex}
+use Rattle.records.specs.declared.values.Date.{Date}
+use Rattle.records.specs.declared.values.Place.{Place}
+use Rattle.records.specs.declared.values.Signed.{Signed}
+use Rattle.records.specs.declared.values.Zone.{Zone}
+use Rattle.put.specs.Wrote.{Held, held, Puts, PutsFields}
+use Rattle.ranges.specs.Ranges.{alikeWrong, letterWrong, outside, placeWrong, portWrong, rangeWrong, signedWrong, sixWrong, threeWrong}
+use Rattle.texts.specs.Texts.{dayField, ewField, heightText, hoursField, ifThere, latField, letterField, lonField, minutesField, monthField, nsField, sixField, variationField, variationSide, yearField}
+use Rattle.sealing.specs.declared.Written.{Written}
+use Rattle.sealing.specs.Body.{talkerText}
+use Rattle.sealing.specs.Written.{faultAt, refused, Writes}
+use Rattle.records.specs.declared.Gsa.{Gsa}
+use Rattle.records.specs.declared.Gsv.{Gsv}
+use Rattle.writesat.specs.Gsa.{gsaBody, gsaWrong}
+use Rattle.writesat.specs.Gsv.{gsvBody, gsvFault}
+use Rattle.writecom.specs.Pirer.{pirerBody}
+use Rattle.records.specs.declared.Gga.{Gga}
+use Rattle.writenav.specs.Gga.{ggaBody, ggaWrong}
+use Rattle.records.specs.declared.Gll.{Gll}
+use Rattle.writenav.specs.Gll.{gllBody, gllWrong}
+use Rattle.records.specs.declared.Rmc.{Rmc}
+use Rattle.writenav.specs.Rmc.{rmcBody, rmcWrong}
+use Rattle.records.specs.declared.Vtg.{Vtg}
+use Rattle.writenav.specs.Vtg.{vtgBody, vtgWrong}
+use Rattle.records.specs.declared.Zda.{Zda}
+use Rattle.writenav.specs.Zda.{zdaBody, zdaWrong}
+use Rattle.records.specs.declared.PortAsked.{PortAsked}
+use Rattle.writecom.specs.Pirpr.{pirprBody, pirprWrong}
+use Rattle.records.specs.declared.DatumAsked.{DatumAsked}
+use Rattle.writecom.specs.Pirtr.{pirtrBody, pirtrWrong}
+use Rattle.records.specs.declared.MasksAsked.{MasksAsked}
+use Rattle.writecom.specs.Pirsr.{pirsrBody, pirsrWrong}
+use Rattle.records.specs.declared.PortTold.{PortTold}
+use Rattle.writecom.specs.Pirpa.{pirpaBody, pirpaWrong}
+use Rattle.records.specs.declared.DatumTold.{DatumTold}
+use Rattle.writecom.specs.Pirta.{pirtaBody, pirtaWrong}
+use Rattle.records.specs.declared.MasksTold.{MasksTold}
+use Rattle.writecom.specs.Pirsa.{pirsaBody, pirsaWrong}
+use Rattle.records.specs.declared.CodeTold.{CodeTold}
+use Rattle.writecom.specs.Pirea.{pireaBody, pireaWrong}
+use Rattle.claims.proofs.Determined.{One, one}
+
+-- One place and one buffer after a text was put, or some fields.
+abbrev pub OnePut : List ℕ → ℕ → List ℕ → Type 0
+OnePut d at text = (r q : ℕ) (e f : List ℕ) → Puts (held at d) text (held r e) → Puts (held at d) text (held q f) → (r ≡ q) × (e ≡ f)
+
+abbrev pub OneFields : List ℕ → ℕ → List (List ℕ) → Type 0
+OneFields d at fields = (r q : ℕ) (e f : List ℕ) → PutsFields (held at d) fields (held r e) → PutsFields (held at d) fields (held q f) → (r ≡ q) × (e ≡ f)
+
+halves : (r q : ℕ) (e f : List ℕ) → held r e ≡ held q f → (r ≡ q) × (e ≡ f)
+halves r q e f p = (ap (λ (h : Held). h .place) p, ap (λ (h : Held). h .bytes) p)
+
+one-put : (d : List ℕ) (at : ℕ) (text : List ℕ) → OnePut d at text
+one-put d at text r q e f p s = halves r q e f (p .is ∙ sym (s .is))
+
+one-fields : (d : List ℕ) (at : ℕ) (fields : List (List ℕ)) → OneFields d at fields
+one-fields d at fields r q e f p s = halves r q e f (p .is ∙ sym (s .is))
+
+-- One answer and one output.
+abbrev pub OneWriting : Written → List ℕ → List ℕ → Type 0
+OneWriting fault body out = (a b : Written) (l m : List ℕ) → Writes fault body out a l → Writes fault body out b m → (a ≡ b) × (l ≡ m)
+
+one-writing : (fault : Written) (body out : List ℕ) → OneWriting fault body out
+one-writing fault body out a b l m v w = (v .answers ∙ sym (w .answers), v .leaves ∙ sym (w .leaves))
+
+-- put
+pub put : (d : List ℕ) (at : ℕ) (b : ℕ) → OnePut d at (b ∷ [])
+put d at b = one-put d at (b ∷ [])
+
+pub put-bytes : (d : List ℕ) (at : ℕ) (t : List ℕ) → OnePut d at (t)
+put-bytes d at t = one-put d at (t)
+
+pub put-one : (d : List ℕ) (at : ℕ) (v : ℕ) → OnePut d at (printFixed 1 v)
+put-one d at v = one-put d at (printFixed 1 v)
+
+pub put-two : (d : List ℕ) (at : ℕ) (v : ℕ) → OnePut d at (printFixed 2 v)
+put-two d at v = one-put d at (printFixed 2 v)
+
+pub put-three : (d : List ℕ) (at : ℕ) (v : ℕ) → OnePut d at (printFixed 3 v)
+put-three d at v = one-put d at (printFixed 3 v)
+
+pub put-four : (d : List ℕ) (at : ℕ) (v : ℕ) → OnePut d at (printFixed 4 v)
+put-four d at v = one-put d at (printFixed 4 v)
+
+pub put-plain : (d : List ℕ) (at : ℕ) (v : ℕ) → OnePut d at (plainText v)
+put-plain d at v = one-put d at (plainText v)
+
+pub put-number : (d : List ℕ) (at : ℕ) (v : ℕ) → OnePut d at (numberText v)
+put-number d at v = one-put d at (numberText v)
+
+-- ranges
+pub range-within : (v : ℕ) (lo : ℕ) (hi : ℕ) → One (outside lo hi v)
+range-within v lo hi = one
+
+pub range-maybe : (there : Bool) (v : ℕ) (lo : ℕ) (hi : ℕ) → One (rangeWrong lo hi there v)
+range-maybe there v lo hi = one
+
+pub range-size : (z : ℤ) → One (natAbs z)
+range-size z = one
+
+pub range-signed : (there : Bool) (z : ℤ) (hi : ℕ) → One (signedWrong hi there z)
+range-signed there z hi = one
+
+pub range-letter : (v : ℕ) (set : List ℕ) → One (letterWrong set v)
+range-letter v set = one
+
+pub range-place : (p : Place) → One (placeWrong p)
+range-place p = one
+
+pub range-six : (d : Date) → One (sixWrong d)
+range-six d = one
+
+pub range-three : (d : Date) → One (threeWrong d)
+range-three d = one
+
+pub range-port-mask : (there : Bool) (v : ℕ) → One (portWrong there v)
+range-port-mask there v = one
+
+pub range-alike : (needed : Bool) (there : Bool) (wrong : ℕ) → One (alikeWrong needed there wrong)
+range-alike needed there wrong = one
+
+-- texts
+pub text-one : (d : List ℕ) (at : ℕ) (there : Bool) (v : ℕ) → OneFields d at (ifThere there (printFixed 1 v) ∷ [])
+text-one d at there v = one-fields d at (ifThere there (printFixed 1 v) ∷ [])
+
+pub text-two : (d : List ℕ) (at : ℕ) (there : Bool) (v : ℕ) → OneFields d at (ifThere there (printFixed 2 v) ∷ [])
+text-two d at there v = one-fields d at (ifThere there (printFixed 2 v) ∷ [])
+
+pub text-three : (d : List ℕ) (at : ℕ) (there : Bool) (v : ℕ) → OneFields d at (ifThere there (printFixed 3 v) ∷ [])
+text-three d at there v = one-fields d at (ifThere there (printFixed 3 v) ∷ [])
+
+pub text-four : (d : List ℕ) (at : ℕ) (there : Bool) (v : ℕ) → OneFields d at (ifThere there (printFixed 4 v) ∷ [])
+text-four d at there v = one-fields d at (ifThere there (printFixed 4 v) ∷ [])
+
+pub text-plain : (d : List ℕ) (at : ℕ) (there : Bool) (v : ℕ) → OneFields d at (ifThere there (plainText v) ∷ [])
+text-plain d at there v = one-fields d at (ifThere there (plainText v) ∷ [])
+
+pub text-number : (d : List ℕ) (at : ℕ) (there : Bool) (v : ℕ) → OneFields d at (ifThere there (numberText v) ∷ [])
+text-number d at there v = one-fields d at (ifThere there (numberText v) ∷ [])
+
+pub text-time : (d : List ℕ) (at : ℕ) (there : Bool) (v : ℕ) → OneFields d at (ifThere there (clockText v) ∷ [])
+text-time d at there v = one-fields d at (ifThere there (clockText v) ∷ [])
+
+pub text-height : (d : List ℕ) (at : ℕ) (there : Bool) (z : ℤ) → OneFields d at (ifThere there (heightText z) ∷ [])
+text-height d at there z = one-fields d at (ifThere there (heightText z) ∷ [])
+
+pub text-unit : (d : List ℕ) (at : ℕ) (there : Bool) (b : ℕ) → OneFields d at (ifThere there (b ∷ []) ∷ [])
+text-unit d at there b = one-fields d at (ifThere there (b ∷ []) ∷ [])
+
+pub text-letter : (d : List ℕ) (at : ℕ) (v : ℕ) → OneFields d at (letterField v ∷ [])
+text-letter d at v = one-fields d at (letterField v ∷ [])
+
+pub text-empty : (d : List ℕ) (at : ℕ) → OneFields d at ([] ∷ [])
+text-empty d at = one-fields d at ([] ∷ [])
+
+pub text-place : (d : List ℕ) (at : ℕ) (p : Place) → OneFields d at (latField p ∷ nsField p ∷ lonField p ∷ ewField p ∷ [])
+text-place d at p = one-fields d at (latField p ∷ nsField p ∷ lonField p ∷ ewField p ∷ [])
+
+pub text-variation : (d : List ℕ) (at : ℕ) (n : Signed) → OneFields d at (variationField n ∷ variationSide n ∷ [])
+text-variation d at n = one-fields d at (variationField n ∷ variationSide n ∷ [])
+
+pub text-six : (d : List ℕ) (at : ℕ) (x : Date) → OneFields d at (sixField x ∷ [])
+text-six d at x = one-fields d at (sixField x ∷ [])
+
+pub text-date-three : (d : List ℕ) (at : ℕ) (x : Date) → OneFields d at (dayField x ∷ monthField x ∷ yearField x ∷ [])
+text-date-three d at x = one-fields d at (dayField x ∷ monthField x ∷ yearField x ∷ [])
+
+pub text-zone : (d : List ℕ) (at : ℕ) (z : Zone) → OneFields d at (hoursField z ∷ minutesField z ∷ [])
+text-zone d at z = one-fields d at (hoursField z ∷ minutesField z ∷ [])
+
+pub text-zone-four : (d : List ℕ) (at : ℕ) (there : Bool) (z : ℤ) → OneFields d at (ifThere there (fourText z) ∷ [])
+text-zone-four d at there z = one-fields d at (ifThere there (fourText z) ∷ [])
+
+pub text-hex-four : (d : List ℕ) (at : ℕ) (there : Bool) (v : ℕ) → OneFields d at (ifThere there (printHex 4 v) ∷ [])
+text-hex-four d at there v = one-fields d at (ifThere there (printHex 4 v) ∷ [])
+
+pub text-hex-six : (d : List ℕ) (at : ℕ) (there : Bool) (v : ℕ) → OneFields d at (ifThere there (printHex 6 v) ∷ [])
+text-hex-six d at there v = one-fields d at (ifThere there (printHex 6 v) ∷ [])
+
+pub text-hex-eight : (d : List ℕ) (at : ℕ) (there : Bool) (v : ℕ) → OneFields d at (ifThere there (printHex 8 v) ∷ [])
+text-hex-eight d at there v = one-fields d at (ifThere there (printHex 8 v) ∷ [])
+
+-- sealing
+pub seal-refuse : (n : ℕ) (line : ℕ) (field : ℕ) → One (refused n line field)
+seal-refuse n line field = one
+
+pub seal-fault : (wrong : ℕ) → One (faultAt wrong)
+seal-fault wrong = one
+
+pub seal-address : (d : List ℕ) (t : Talker) (kind : List ℕ) → OnePut d 0 (talkerText t ++ kind)
+seal-address d t kind = one-put d 0 (talkerText t ++ kind)
+
+pub seal-finish : (out scratch : List ℕ) (n : ℕ) (fault : Written) → OneWriting fault (take n scratch) out
+seal-finish out scratch n fault = one-writing fault (take n scratch) out
+
+-- the writers
+pub write-gga : (out : List ℕ) (t : Talker) (r : Gga) → OneWriting (faultAt (ggaWrong r)) (ggaBody t r) out
+write-gga out t r = one-writing (faultAt (ggaWrong r)) (ggaBody t r) out
+
+pub write-gll : (out : List ℕ) (t : Talker) (r : Gll) → OneWriting (faultAt (gllWrong r)) (gllBody t r) out
+write-gll out t r = one-writing (faultAt (gllWrong r)) (gllBody t r) out
+
+pub write-rmc : (out : List ℕ) (t : Talker) (r : Rmc) → OneWriting (faultAt (rmcWrong r)) (rmcBody t r) out
+write-rmc out t r = one-writing (faultAt (rmcWrong r)) (rmcBody t r) out
+
+pub write-vtg : (out : List ℕ) (t : Talker) (r : Vtg) → OneWriting (faultAt (vtgWrong r)) (vtgBody t r) out
+write-vtg out t r = one-writing (faultAt (vtgWrong r)) (vtgBody t r) out
+
+pub write-zda : (out : List ℕ) (t : Talker) (r : Zda) → OneWriting (faultAt (zdaWrong r)) (zdaBody t r) out
+write-zda out t r = one-writing (faultAt (zdaWrong r)) (zdaBody t r) out
+
+pub write-gsa : (out : List ℕ) (t : Talker) (r : Gsa) → OneWriting (faultAt (gsaWrong r)) (gsaBody t r) out
+write-gsa out t r = one-writing (faultAt (gsaWrong r)) (gsaBody t r) out
+
+pub write-gsv : (out : List ℕ) (t : Talker) (r : Gsv) → OneWriting (gsvFault r) (gsvBody t r) out
+write-gsv out t r = one-writing (gsvFault r) (gsvBody t r) out
+
+pub write-pirpr : (out : List ℕ) (r : PortAsked) → OneWriting (faultAt (pirprWrong r)) (pirprBody r) out
+write-pirpr out r = one-writing (faultAt (pirprWrong r)) (pirprBody r) out
+
+pub write-pirtr : (out : List ℕ) (r : DatumAsked) → OneWriting (faultAt (pirtrWrong r)) (pirtrBody r) out
+write-pirtr out r = one-writing (faultAt (pirtrWrong r)) (pirtrBody r) out
+
+pub write-pirsr : (out : List ℕ) (r : MasksAsked) → OneWriting (faultAt (pirsrWrong r)) (pirsrBody r) out
+write-pirsr out r = one-writing (faultAt (pirsrWrong r)) (pirsrBody r) out
+
+pub write-pirpa : (out : List ℕ) (r : PortTold) → OneWriting (faultAt (pirpaWrong r)) (pirpaBody r) out
+write-pirpa out r = one-writing (faultAt (pirpaWrong r)) (pirpaBody r) out
+
+pub write-pirta : (out : List ℕ) (r : DatumTold) → OneWriting (faultAt (pirtaWrong r)) (pirtaBody r) out
+write-pirta out r = one-writing (faultAt (pirtaWrong r)) (pirtaBody r) out
+
+pub write-pirsa : (out : List ℕ) (r : MasksTold) → OneWriting (faultAt (pirsaWrong r)) (pirsaBody r) out
+write-pirsa out r = one-writing (faultAt (pirsaWrong r)) (pirsaBody r) out
+
+pub write-pirea : (out : List ℕ) (r : CodeTold) → OneWriting (faultAt (pireaWrong r)) (pireaBody r) out
+write-pirea out r = one-writing (faultAt (pireaWrong r)) (pireaBody r) out
+
+pub write-pirer : (out : List ℕ) → OneWriting (faultAt 0) pirerBody out
+write-pirer out = one-writing (faultAt 0) pirerBody out
