@@ -28,6 +28,14 @@ use Rattle.records.specs.declared.Sentence.the-variants.{Refused}
 use Rattle.records.specs.Blank.{aloneOf}
 use Rattle.reading.specs.Lines.{readBody, readLine}
 use Rattle.reading.proofs.Order as Order
+use Rattle.address.specs.declared.Talker.{Talker}
+use Rattle.records.specs.declared.Gga.{Gga}
+use Rattle.records.specs.declared.Sentence.the-variants as S
+use Rattle.sealing.specs.declared.Written.{Written}
+use Rattle.sealing.specs.Written.{faultAt, Writes}
+use Rattle.writenav.specs.Gga.{ggaBody, ggaWrong}
+use Rattle.claims.proofs.Rewriting as Rewriting
+use Rattle.claims.proofs.Writing as Writing
 use Rattle.claims.proofs.Rows.{rows, AllHold, rows-hold}
 
 -- What the line rule accepts is `$`, a body of 1 to 76 allowed bytes, `*`, the two digits of its XOR, CR, LF ..
@@ -103,6 +111,23 @@ read-sound = Order.sound
 
 pub read-unknown : (l : List ℕ) → lineRefusal l ≡ 0 → addressOf (bodyOf l) ≡ Unknown → readLine l ≡ aloneOf (Refused 3 0)
 read-unknown = Order.unknown
+
+-- A writer that refuses leaves every byte of the output, and one that writes leaves the bytes past what it wrote.
+pub refusal-leaves : {fault : Written} {body out : List ℕ} {answer : Written} {left : List ℕ} → Writes fault body out answer left → (answer .no ≡ 0 → ⊥) → left ≡ out
+refusal-leaves = Writing.refusal-leaves
+
+pub rest-stays : {fault : Written} {body out : List ℕ} {answer : Written} {left : List ℕ} → Writes fault body out answer left
+    → answer .no ≡ 0 → drop (answer .length) left ≡ drop (answer .length) out
+rest-stays = Writing.rest-stays
+
+-- What we write reads back as the same record and talker: here GGA; file Writing has it for each of the fifteen kinds.
+pub gga-back : (t : Talker) (r : Gga) {out left : List ℕ} {answer : Written} → Writes (faultAt (ggaWrong r)) (ggaBody t r) out answer left
+    → answer .no ≡ 0 → readLine (take (answer .length) left) ≡ aloneOf (S.Gga t r)
+gga-back = Writing.gga-back
+
+-- What was read can be written: of every kind, it is in range, and its line fits.
+pub read-can-be-written : (l : List ℕ) → Rewriting.CanBeWritten (readLine l)
+read-can-be-written = Writing.read-can-be-written
 
 -- The worked rows hold of the definitions.
 pub worked-rows : AllHold rows

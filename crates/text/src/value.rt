@@ -17,10 +17,10 @@ pub fn put_value(out: &mut [u8], at: usize, v: u32) -> usize {
 pub fn put_int(out: &mut [u8], at: usize, v: i32) -> usize {
     if v < 0 {
         let a = crate::put_bytes(out, at, b" -");
-        return crate::put_number(out, a, (-(v as i64)) as u64);
+        return crate::put_number(out, a, ranges::size(v) as u64);
     }
     let a = crate::put_bytes(out, at, b" ");
-    crate::put_number(out, a, v as u64)
+    crate::put_number(out, a, ranges::size(v) as u64)
 }
 
 // 1 where a value is there, 0 where it is missing.
