@@ -3,18 +3,21 @@ use Prim.Native.Nat.{ℕ, _+_, _≤_}
 use mathlib.Core.Path.{_≡_, refl, _∙_}
 use mathlib.Core.List.{List, [], _∷_, _++_}
 use mathlib.Core.Bool.{Bool, true, false, cond}
+use mathlib.Core.Option.{some}
 use native.Mathlib.Omega.{arith}
 use lib.Dec.{eqb, lit<, lit≤}
 use lib.ListN.{length, length-append}
+use lib.Seq.{take-at, drop-at}
 use borrow.Author.Tests.{eqb-true, eqb-false}
 use Rattle.digits.specs.Ascii.{ascii}
 use Rattle.digits.specs.Same.{same}
 use Rattle.address.specs.declared.Address.the-variants.{Standard, Maker}
+use Rattle.address.specs.declared.Kind.{Kind}
 use Rattle.address.specs.declared.Kind.the-variants as K
 use Rattle.address.specs.declared.Pir.the-variants as P
 use Rattle.address.specs.declared.Talker.{Talker}
 use Rattle.address.specs.declared.Talker.the-variants.{Gp, Gl, Ga, Gq, Gn}
-use Rattle.address.specs.Address.{lookUp, knownOf}
+use Rattle.address.specs.Address.{lookUp, talkerOf, kindOf, knownOf}
 use Rattle.records.specs.Wrong.{After, nearOf, firstWrong}
 use Rattle.sealing.specs.Body.{talkerText}
 use Rattle.trips.proofs.Clean.{Clean, clean-append}
@@ -65,63 +68,48 @@ module _ (t : Talker) (kind : List ℕ) (three : length kind ≡ 3) where
   pub address-clean : Clean kind → Clean (talkerText t ++ kind)
   address-clean c = clean-append (talkerText t) kind (talker-clean t) c
 
--- Each pair of talker and type is known, and each of the maker's addresses.
+-- Each talker is known by its two bytes, so each pair of talker and type is known.
+talker-known : (t : Talker) → talkerOf (talkerText t) ≡ some t
+unfolding lookUp same
+talker-known Gp = refl
+talker-known Gl = refl
+talker-known Ga = refl
+talker-known Gq = refl
+talker-known Gn = refl
+
+known-standard : (t : Talker) (kind : List ℕ) (k : Kind) → kindOf kind ≡ some k → knownOf (talkerText t ++ kind) ≡ Standard t k
+unfolding knownOf
+known-standard t kind k e = rw (take-at (talkerText t) kind 2 (talker-two t), talker-known t, drop-at (talkerText t) kind 2 (talker-two t), e)
+
 pub known-gga : (t : Talker) → knownOf (talkerText t ++ ascii "GGA") ≡ Standard t K.Gga
-unfolding knownOf lookUp same
-known-gga Gp = refl
-known-gga Gl = refl
-known-gga Ga = refl
-known-gga Gq = refl
-known-gga Gn = refl
+unfolding lookUp same
+known-gga t = known-standard t (ascii "GGA") K.Gga refl
 
 pub known-gll : (t : Talker) → knownOf (talkerText t ++ ascii "GLL") ≡ Standard t K.Gll
-unfolding knownOf lookUp same
-known-gll Gp = refl
-known-gll Gl = refl
-known-gll Ga = refl
-known-gll Gq = refl
-known-gll Gn = refl
+unfolding lookUp same
+known-gll t = known-standard t (ascii "GLL") K.Gll refl
 
 pub known-gsa : (t : Talker) → knownOf (talkerText t ++ ascii "GSA") ≡ Standard t K.Gsa
-unfolding knownOf lookUp same
-known-gsa Gp = refl
-known-gsa Gl = refl
-known-gsa Ga = refl
-known-gsa Gq = refl
-known-gsa Gn = refl
+unfolding lookUp same
+known-gsa t = known-standard t (ascii "GSA") K.Gsa refl
 
 pub known-gsv : (t : Talker) → knownOf (talkerText t ++ ascii "GSV") ≡ Standard t K.Gsv
-unfolding knownOf lookUp same
-known-gsv Gp = refl
-known-gsv Gl = refl
-known-gsv Ga = refl
-known-gsv Gq = refl
-known-gsv Gn = refl
+unfolding lookUp same
+known-gsv t = known-standard t (ascii "GSV") K.Gsv refl
 
 pub known-rmc : (t : Talker) → knownOf (talkerText t ++ ascii "RMC") ≡ Standard t K.Rmc
-unfolding knownOf lookUp same
-known-rmc Gp = refl
-known-rmc Gl = refl
-known-rmc Ga = refl
-known-rmc Gq = refl
-known-rmc Gn = refl
+unfolding lookUp same
+known-rmc t = known-standard t (ascii "RMC") K.Rmc refl
 
 pub known-vtg : (t : Talker) → knownOf (talkerText t ++ ascii "VTG") ≡ Standard t K.Vtg
-unfolding knownOf lookUp same
-known-vtg Gp = refl
-known-vtg Gl = refl
-known-vtg Ga = refl
-known-vtg Gq = refl
-known-vtg Gn = refl
+unfolding lookUp same
+known-vtg t = known-standard t (ascii "VTG") K.Vtg refl
 
 pub known-zda : (t : Talker) → knownOf (talkerText t ++ ascii "ZDA") ≡ Standard t K.Zda
-unfolding knownOf lookUp same
-known-zda Gp = refl
-known-zda Gl = refl
-known-zda Ga = refl
-known-zda Gq = refl
-known-zda Gn = refl
+unfolding lookUp same
+known-zda t = known-standard t (ascii "ZDA") K.Zda refl
 
+-- Each of the maker's addresses is known.
 pub known-pirpr : knownOf (ascii "PIRPR") ≡ Maker P.Pr
 unfolding knownOf lookUp same
 known-pirpr = refl
