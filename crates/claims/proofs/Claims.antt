@@ -31,6 +31,9 @@ use Rattle.reading.proofs.Order as Order
 use Rattle.address.specs.declared.Talker.{Talker}
 use Rattle.records.specs.declared.Gga.{Gga}
 use Rattle.records.specs.declared.Sentence.the-variants as S
+use Rattle.records.specs.declared.Entry.{Entry}
+use Rattle.sky.specs.Group as Group
+use Rattle.sky.proofs.Damage as Damage
 use Rattle.sealing.specs.declared.Written.{Written}
 use Rattle.sealing.specs.Written.{faultAt, Writes}
 use Rattle.writenav.specs.Gga.{ggaBody, ggaWrong}
@@ -68,6 +71,11 @@ pub damage-caught : {S A : Type 0} (refused : ℕ → ℕ → ℕ → A) (rule :
     → (q : S) {g h : List ℕ} → OneByte g h → NotRefused refused (readLines refused rule finish q g)
     → Caught refused (cutLines g) (cutLines h) (readLines refused rule finish q h)
 damage-caught = Point3.point-three
+
+-- So does the group reader's definition: one byte changed, dropped or added anywhere in the bytes of a whole group, line ends included.
+pub group-damage-caught : {g h : List ℕ} (t : Talker) (es : List Entry) → OneByte g h → Group.groupOf g ≡ Group.whole t es
+    → Caught Group.refused (cutLines g) (cutLines h) (Group.groupOf h)
+group-damage-caught = Damage.damage-caught
 
 -- Bytes cut and joined again are the bytes.
 pub cut-joined : (s : List ℕ) → joined (cutLines s) ≡ s
