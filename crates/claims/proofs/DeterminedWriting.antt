@@ -1,6 +1,6 @@
 -- The functions that write: any two results that a contract permits are equal. A put answers a place and leaves a buffer, both as one
 -- definition says; a writer answers and leaves the output as `Writes` says.
-use Prim.Native.Nat.{ℕ, _%_}
+use Prim.Native.Nat.{ℕ}
 use mathlib.Core.Path.{_≡_, sym, ap, _∙_}
 use mathlib.Core.List.{List, [], _∷_, _++_}
 use mathlib.Core.Bool.{Bool}

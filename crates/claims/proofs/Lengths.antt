@@ -2,8 +2,8 @@
 -- with one constant line meets its contract: two records are written as different bytes.
 use Prim.Native.Nat.{ℕ, _<_}
 use mathlib.Core.Path.{_≡_, refl, sym, ap, _∙_}
-use mathlib.Core.List.{List, [], _∷_}
-use mathlib.Core.Bool.{Bool, true, false}
+use mathlib.Core.List.{List}
+use mathlib.Core.Bool.{true}
 use native.Mathlib.Omega.{arith}
 use lib.Dec.{lit<}
 use lib.IntN.{pos, negsuc}
@@ -23,7 +23,6 @@ use Rattle.records.specs.declared.Rmc.{Rmc}
 use Rattle.records.specs.declared.Reading.{Reading}
 use Rattle.records.specs.declared.Sentence.{Sentence}
 use Rattle.records.specs.declared.Sentence.the-variants as S
-use Rattle.records.specs.declared.values.Maybe.{Maybe}
 use Rattle.records.specs.declared.values.Number.{Number}
 use Rattle.ranges.specs.Ranges.{letterWrong, outside, placeWrong, rangeWrong, signedWrong, sixWrong}
 use Rattle.reading.specs.Lines.{readLine}

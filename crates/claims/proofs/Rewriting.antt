@@ -1,9 +1,9 @@
 -- What was read can be written: every sentence that the line reader gives is in range, and its line fits. The body of a line is as long as
 -- its fields and commas together, and no field is written longer than it was read, but in the maker's sentences, which always fit.
-use Prim.Native.Nat.{ℕ, zero, suc, _+_, _-_, _≤_, _<_}
-use mathlib.Core.Path.{_≡_, refl, sym, ap, _∙_, subst}
+use Prim.Native.Nat.{ℕ, zero, suc, _+_, _-_, _≤_}
+use mathlib.Core.Path.{_≡_, refl, sym, ap, _∙_}
 use mathlib.Core.List.{List, [], _∷_, _++_}
-use mathlib.Core.Bool.{Bool, true, false, not, _&&_, cond}
+use mathlib.Core.Bool.{Bool, true, false, not, _&&_}
 use native.Mathlib.Omega.{arith}
 use lib.Dec.{eqb, leb}
 use lib.ListN.{length, getD, take}
@@ -11,7 +11,7 @@ use borrow.Author.Tests.{eqb-true, leb-true, leb-false, not-true}
 use Rattle.digits.specs.Ascii.{ascii}
 use Rattle.digits.proofs.Bools.{and-left, and-right}
 use Rattle.line.specs.Line.{lineRefusal, bodyOf, asLine}
-use Rattle.line.proofs.Form.{Body, accepted}
+use Rattle.line.proofs.Form.{accepted}
 use Rattle.address.specs.declared.Address.{Address}
 use Rattle.address.specs.declared.Address.the-variants.{Standard, Maker, Unknown}
 use Rattle.address.specs.declared.Kind.{Kind}
@@ -45,13 +45,13 @@ use Rattle.tripssat.proofs.Gsv as TGsv
 use Rattle.tripssat.proofs.GsvRead as TGsvRead
 use Rattle.writenav.specs.Gga.{ggaWrong, ggaFields, ggaBody}
 use Rattle.tripsnav.proofs.Gga as TGga
-use Rattle.writenav.specs.Gll.{gllWrong, gllFields, gllBody}
+use Rattle.writenav.specs.Gll.{gllWrong, gllBody}
 use Rattle.tripsnav.proofs.Gll as TGll
 use Rattle.writenav.specs.Rmc.{rmcWrong, rmcFields, rmcBody}
 use Rattle.tripsnav.proofs.Rmc as TRmc
-use Rattle.writenav.specs.Vtg.{vtgWrong, vtgFields, vtgBody}
+use Rattle.writenav.specs.Vtg.{vtgWrong, vtgBody}
 use Rattle.tripsnav.proofs.Vtg as TVtg
-use Rattle.writenav.specs.Zda.{zdaWrong, zdaFields, zdaBody}
+use Rattle.writenav.specs.Zda.{zdaWrong, zdaBody}
 use Rattle.tripsnav.proofs.Zda as TZda
 use Rattle.writecom.specs.Pirpr.{pirprWrong, pirprBody}
 use Rattle.tripscom.proofs.Pirpr as TPirpr

@@ -1,21 +1,17 @@
 -- The claims about writing, each under a plain sentence. `Writes` is what every writer's contract says: what it answers, and every byte that
 -- it leaves.
-use Prim.Native.Nat.{ℕ, _≤_, _<_}
-use mathlib.Core.Path.{_≡_, refl, sym, ap, _∙_, subst}
-use mathlib.Core.List.{List, [], _∷_, _++_}
+use Prim.Native.Nat.{ℕ, _≤_}
+use mathlib.Core.Path.{_≡_, refl, sym, ap, _∙_}
+use mathlib.Core.List.{List, _++_}
 use mathlib.Core.Bool.{Bool, true, false}
 use native.Mathlib.Omega.{arith}
-use lib.Dec.{eqb, ltb, lit<}
-use lib.IntN.{pos}
+use lib.Dec.{eqb, ltb}
 use lib.ListN.{length, take, drop}
 use lib.Seq.{take-at, drop-at}
 use borrow.Author.Tests.{eqb-true, eqb-false, ltb-false}
 use Rattle.line.specs.Line.{asLine, bodyOf, lineRefusal}
 use Rattle.address.specs.declared.Talker.{Talker}
-use Rattle.address.specs.declared.Talker.the-variants.{Gp}
 use Rattle.forms.specs.Got.{pick}
-use Rattle.records.specs.declared.Reading.{Reading}
-use Rattle.records.specs.declared.Sentence.{Sentence}
 use Rattle.records.specs.declared.Sentence.the-variants as S
 use Rattle.records.specs.Blank.{aloneOf}
 use Rattle.reading.specs.Lines.{readBody, readLine, refusalOf}

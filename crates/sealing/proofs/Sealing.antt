@@ -17,7 +17,7 @@ use Rattle.put.specs.Wrote.{Held, held, wroteFields, Puts, PutsFields}
 use Rattle.put.specs.Wrote as W
 use Rattle.put.proofs.Chain.{put-start, wrote-append}
 use Rattle.sealing.specs.declared.Written.{Written}
-use Rattle.sealing.specs.Written.{pick, refused, wrote, writtenOf, leftOf, Writes, faultAt}
+use Rattle.sealing.specs.Written.{refused, wrote, writtenOf, leftOf, Writes, faultAt}
 
 pub line-length : (s : List ℕ) → length (asLine s) ≡ length s + 6
 line-length s = with-length s (hexOf (xorOf s / 16)) (hexOf (xorOf s % 16))

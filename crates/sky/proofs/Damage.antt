@@ -1,7 +1,7 @@
 -- Point 3, of the group's own definition: its rule refuses a line that fails the line rule with that number at field 0, in every state, so
 -- what holds of any reader of lines in order holds of it.
 use Prim.Native.Nat.{ℕ}
-use mathlib.Core.Path.{_≡_, refl, sym, _∙_, ap}
+use mathlib.Core.Path.{_≡_, sym, _∙_, ap}
 use mathlib.Core.List.{List}
 use mathlib.Core.Bool.{Bool, true, false, true≢false}
 use mathlib.Core.Option.{Option, none}
@@ -9,12 +9,11 @@ use Rattle.line.specs.Line.{lineRefusal}
 use Rattle.address.specs.declared.Talker.{Talker}
 use Rattle.lines.specs.Cut.{cutLines}
 use Rattle.lines.specs.Edit.{OneByte}
-use Rattle.lines.specs.Reader.{Step, stop, readLines}
+use Rattle.lines.specs.Reader.{stop, readLines}
 use Rattle.lines.specs.Caught.{NotRefused, Caught}
 use Rattle.lines.proofs.Point3 as Point3
 use Rattle.records.specs.declared.Entry.{Entry}
 use Rattle.records.specs.declared.Reading.{Reading}
-use Rattle.reading.specs.Lines.{readLine}
 use Rattle.reading.proofs.Order as Order
 use Rattle.sky.specs.Group.{Answer, whole, refused, Seen, ruled, rule, ended, groupOf}
 

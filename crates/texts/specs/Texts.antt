@@ -1,6 +1,5 @@
 -- The values of a record as texts of their fields. A missing value is an empty field.
 use Prim.Native.Nat.{ℕ, _%_}
-use Prim.Native.String.{String}
 use mathlib.Core.List.{List, [], _∷_, _++_}
 use mathlib.Core.Bool.{Bool, true, false}
 use lib.IntN.{ℤ, pos, negsuc, natAbs}

@@ -1,23 +1,20 @@
 -- A body that was put together of clean fields is read as those fields: its line passes the line rule, its address is the first five bytes,
 -- and its fields are found again.
-use Prim.Native.Nat.{ℕ, suc, _+_, _-_, _/_, _%_, _≤_, _<_}
-use mathlib.Core.Path.{_≡_, refl, sym, ap, _∙_}
-use mathlib.Core.List.{List, [], _∷_, _++_}
-use mathlib.Core.Bool.{Bool, true, false, _&&_}
+use Prim.Native.Nat.{ℕ, suc, _-_, _/_, _%_, _≤_}
+use mathlib.Core.Path.{_≡_, ap, _∙_}
+use mathlib.Core.List.{List, [], _∷_}
 use native.Mathlib.Omega.{arith}
-use lib.Dec.{eqb}
-use lib.ListN.{length, getD, take, length-append}
+use lib.ListN.{length, getD, length-append}
 use lib.Seq.{take-at, getD-at}
 use borrow.Author.Tests.{eq-eqb}
 use Rattle.digits.specs.Hex.{hexOf}
-use Rattle.line.specs.Line.{bodyBytes, xorOf, bodyOf, lineRefusal, asLine}
+use Rattle.line.specs.Line.{xorOf, lineRefusal, asLine}
 use Rattle.line.proofs.Form.{Body, accepts, body-of}
-use Rattle.address.specs.Address.{commaFree, knownOf, addressOf}
+use Rattle.address.specs.Address.{knownOf, addressOf}
 use Rattle.address.specs.declared.Address.{Address}
 use Rattle.fields.specs.Fields.{fieldsOf, joinFields}
 use Rattle.fields.specs.Places.{theFields}
 use Rattle.fields.proofs.Joining.{fields-join}
-use Rattle.records.specs.declared.Reading.{Reading}
 use Rattle.reading.specs.Lines.{addressed, readBody, readLine}
 use Rattle.trips.proofs.Clean.{Clean, CleanAll, clean-free, all-free, clean-joined}
 

@@ -1,14 +1,12 @@
 -- What our writers put into a field: bytes from `-` to `[`, so none is a comma and all may stand in a body. A text put together of such
 -- texts is such a text.
 use Prim.Native.Nat.{ℕ, zero, suc, _+_, _/_, _%_, _≤_, _<_}
-use mathlib.Core.Path.{_≡_, refl, sym, ap, _∙_}
+use mathlib.Core.Path.{_≡_, refl}
 use mathlib.Core.List.{List, [], _∷_, _++_}
-use mathlib.Core.Bool.{Bool, true, false, _&&_, not}
+use mathlib.Core.Bool.{Bool, true, false}
 use native.Mathlib.Omega.{arith}
-use lib.Dec.{eqb, leb, ltb, lit<, lit≤}
-use lib.ListN.{length, length-append}
-use borrow.Author.Tests.{le-leb, ne-eqb, lt-ltb, le-ltb, ltb-true, ltb-false}
-use Rattle.digits.specs.Ascii.{ascii}
+use lib.Dec.{ltb, lit<, lit≤}
+use borrow.Author.Tests.{le-leb, ne-eqb, ltb-true}
 use Rattle.digits.specs.Decimal.{printFixed}
 use Rattle.digits.specs.Hex.{hexOf}
 use Rattle.digits.proofs.Bools.{and-left, and-right}

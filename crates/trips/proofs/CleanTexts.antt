@@ -1,7 +1,7 @@
 -- The text of each value is clean, and no longer than its form allows.
-use Prim.Native.Nat.{ℕ, zero, suc, _+_, _*_, _/_, _%_, _^_, _≤_, _<_}
+use Prim.Native.Nat.{ℕ, suc, _+_, _/_, _%_, _≤_, _<_}
 use mathlib.Core.Path.{_≡_, sym, ap, _∙_, subst}
-use mathlib.Core.List.{List, [], _∷_, _++_}
+use mathlib.Core.List.{List, [], _∷_}
 use mathlib.Core.Bool.{Bool, true, false, cond}
 use native.Mathlib.Omega.{arith}
 use native.Mathlib.Nat.{add-zero}
@@ -9,7 +9,6 @@ use lib.Dec.{eqb, ltb, lit<, lit≤}
 use lib.IntN.{ℤ, pos, negsuc, natAbs}
 use lib.ListN.{length, length-append}
 use borrow.Author.Tests.{lt-ltb}
-use Rattle.digits.specs.Ascii.{ascii}
 use Rattle.digits.specs.Decimal.{printFixed}
 use Rattle.digits.proofs.DecimalLaws.{length-fixed}
 use Rattle.forms.specs.Angle.{angleText}
@@ -17,7 +16,7 @@ use Rattle.forms.specs.Plain.{widthOf, plainText, fractionText, numberText}
 use Rattle.forms.specs.Sign.{signText}
 use Rattle.calendar.specs.Time.{clockText}
 use Rattle.calendar.specs.Dates.{sixText}
-use Rattle.calendar.specs.Zone.{hoursText, minutesText, fourText}
+use Rattle.calendar.specs.Zone.{hoursText, fourText}
 use Rattle.fields.specs.Fields.{joinFields}
 use Rattle.ranges.specs.Ranges.{letterWrong}
 use Rattle.texts.specs.Texts.{ifThere, heightText, letterField, sideText}

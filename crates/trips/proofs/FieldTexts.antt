@@ -1,11 +1,11 @@
 -- The field of each value of a record: it is clean, and so long at most.
-use Prim.Native.Nat.{ℕ, suc, _+_, _/_, _%_, _≤_, _<_}
+use Prim.Native.Nat.{ℕ, _%_, _≤_, _<_}
 use mathlib.Core.Path.{_≡_}
 use mathlib.Core.List.{List, [], _∷_}
 use mathlib.Core.Bool.{Bool, true, false}
 use native.Mathlib.Omega.{arith}
 use lib.Dec.{lit<, lit≤}
-use lib.IntN.{ℤ, natAbs}
+use lib.IntN.{natAbs}
 use lib.ListN.{length}
 use Rattle.digits.specs.Ascii.{ascii}
 use Rattle.digits.specs.Decimal.{printFixed}
@@ -25,10 +25,10 @@ use Rattle.records.specs.declared.values.Number.{Number}
 use Rattle.records.specs.declared.values.Place.{Place}
 use Rattle.records.specs.declared.values.Signed.{Signed}
 use Rattle.records.specs.declared.values.Zone.{Zone}
-use Rattle.ranges.specs.Ranges.{outside, rangeWrong, signedWrong}
-use Rattle.texts.specs.Texts.{ifThere, maybeText, numberField, knotsField, kmhField, heightText, heightField, unitField, letterField, sideText, latField, nsField, lonField, ewField, variationField, variationSide, sixField, dayField, monthField, yearField, hoursField, minutesField}
+use Rattle.ranges.specs.Ranges.{outside, rangeWrong}
+use Rattle.texts.specs.Texts.{ifThere, maybeText, numberField, knotsField, kmhField, heightText, heightField, unitField, sideText, latField, nsField, lonField, ewField, variationField, variationSide, sixField, dayField, monthField, yearField, hoursField, minutesField}
 use Rattle.trips.proofs.Clean.{Clean, clean-fixed, clean-hex}
-use Rattle.trips.proofs.CleanTexts.{clean-if, clean-clock, clean-plain, clean-number, clean-height, clean-angle, clean-side, clean-six, clean-hours, clean-zone, length-if, length-clock, length-angle, length-six, length-hours, length-zone, length-side, length-plain, length-number, length-below}
+use Rattle.trips.proofs.CleanTexts.{clean-if, clean-clock, clean-plain, clean-number, clean-height, clean-angle, clean-side, clean-six, clean-hours, clean-zone, length-if, length-clock, length-angle, length-hours, length-zone, length-side, length-plain, length-number, length-below}
 use Rattle.trips.proofs.Values.{inside}
 
 -- The sets of letters.

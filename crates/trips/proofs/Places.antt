@@ -1,11 +1,10 @@
 -- The same for the values that stand in several fields, or hold several numbers: positions, the variation, dates and zones.
-use Prim.Native.Nat.{ℕ, suc, _+_, _/_, _%_, _≤_, _<_}
-use mathlib.Core.Path.{_≡_, refl, sym, ap, _∙_}
-use mathlib.Core.List.{List, [], _∷_, _++_}
+use Prim.Native.Nat.{ℕ, _/_, _%_, _≤_}
+use mathlib.Core.Path.{_≡_, refl}
+use mathlib.Core.List.{List, []}
 use mathlib.Core.Bool.{Bool, true, false, cond, _&&_}
-use mathlib.Core.Option.{Option, none, some}
 use native.Mathlib.Omega.{arith}
-use lib.Dec.{eqb, lit≤}
+use lib.Dec.{eqb}
 use lib.IntN.{ℤ, pos, negsuc, natAbs}
 use lib.ListN.{length, length-append}
 use borrow.Author.Tests.{eqb-true}
@@ -13,21 +12,20 @@ use Rattle.digits.specs.Ascii.{ascii}
 use Rattle.digits.specs.Decimal.{printFixed}
 use Rattle.digits.proofs.Bools.{and-left, and-right}
 use Rattle.digits.proofs.DecimalLaws.{length-fixed}
-use Rattle.forms.specs.declared.got.Position.{Position}
-use Rattle.forms.specs.Got.{gotIntOf, missingInt, maybeIntOf}
-use Rattle.forms.specs.Angle.{angleText, positionForm, variationForm}
-use Rattle.forms.proofs.PositionSides.{Lettered, first, second, Placed, placed, Varied, varied, position-reads, position-empty, variation-reads, variation-empty}
+use Rattle.forms.specs.Got.{missingInt, maybeIntOf}
+use Rattle.forms.specs.Angle.{positionForm, variationForm}
+use Rattle.forms.proofs.PositionSides.{Lettered, first, second, placed, varied, position-reads, position-empty, variation-reads, variation-empty}
 use Rattle.calendar.specs.declared.date.GotDate.{GotDate}
 use Rattle.calendar.specs.Calendar.{isDate}
-use Rattle.calendar.specs.Dates.{theDate, dateSix, dateThree}
-use Rattle.calendar.specs.Zone.{zoneTwo, zoneFour, hoursText, minutesText, fourText}
+use Rattle.calendar.specs.Dates.{dateSix, dateThree}
+use Rattle.calendar.specs.Zone.{zoneTwo, zoneFour, fourText}
 use Rattle.calendar.proofs.CalendarLaws.{text-six, text-three}
-use Rattle.calendar.proofs.ZoneLaws.{theInt, text-two, text-four}
+use Rattle.calendar.proofs.ZoneLaws.{text-two, text-four}
 use Rattle.records.specs.declared.values.Date.{Date}
 use Rattle.records.specs.declared.values.Place.{Place}
 use Rattle.records.specs.declared.values.Signed.{Signed}
 use Rattle.records.specs.declared.values.Zone.{Zone}
-use Rattle.ranges.specs.Ranges.{outside, rangeWrong, signedWrong, placeWrong, sixWrong, threeWrong}
+use Rattle.ranges.specs.Ranges.{rangeWrong, signedWrong, placeWrong, sixWrong, threeWrong}
 use Rattle.texts.specs.Texts.{ifThere, sideText, latField, nsField, lonField, ewField, variationField, variationSide, sixField, dayField, monthField, yearField, hoursField, minutesField}
 use Rattle.trips.proofs.Plain.{number-written}
 use Rattle.trips.proofs.Values.{theGotInt, inside, zero-one, no-size, maybe-int-back}

@@ -1,17 +1,14 @@
 -- Numbers written without needless zeros are numbers of the form, with their values: by how many digits they have.
-use Prim.Native.Nat.{ℕ, zero, suc, _+_, _-_, _*_, _/_, _%_, _^_, _≤_, _<_}
-use mathlib.Core.Path.{_≡_, refl, sym, ap, _∙_, subst}
-use mathlib.Core.List.{List, [], _∷_, _++_, append-nil}
+use Prim.Native.Nat.{ℕ, suc, _+_, _-_, _*_, _/_, _%_, _^_, _≤_, _<_}
+use mathlib.Core.Path.{_≡_, refl, subst}
+use mathlib.Core.List.{[], _∷_, _++_, append-nil}
 use mathlib.Core.Bool.{Bool, true, false, cond}
 use native.Mathlib.Omega.{arith}
-use lib.Dec.{eqb, ltb, lit<, lit≤}
+use lib.Dec.{eqb, ltb, lit≤}
 use lib.IntN.{ℤ, pos, negsuc, natAbs}
-use lib.ListN.{length, length-append}
-use borrow.Author.Tests.{ltb-true, ltb-false, eqb-true, eqb-false}
+use borrow.Author.Tests.{ltb-true, ltb-false, eqb-true}
 use Rattle.digits.specs.Decimal.{printFixed}
-use Rattle.digits.proofs.DecimalLaws.{length-fixed}
 use Rattle.forms.specs.Plain.{widthOf, plainText, fractionText, numberText}
-use Rattle.forms.specs.Sign.{signText}
 use Rattle.forms.proofs.NumberSides.{Written, whole, pointed, WrittenHeight, plain, minus}
 use Rattle.masks.proofs.RateLaws.{PlainText}
 use Rattle.texts.specs.Texts.{heightText}

@@ -1,40 +1,24 @@
 -- What was read of a field is in its range, so that it can be written; and what is written of it is no longer than the field was.
-use Prim.Native.Nat.{ℕ, zero, suc, _+_, _-_, _*_, _/_, _%_, _^_, _≤_, _<_}
-use mathlib.Core.Path.{_≡_, refl, sym, ap, _∙_, subst}
-use mathlib.Core.List.{List, [], _∷_, _++_}
-use mathlib.Core.Bool.{Bool, true, false, cond, _&&_}
-use mathlib.Core.Option.{Option, none, some, Option·some-injective}
-use mathlib.Core.Logic.{_⊎_, inl, inr}
+use Prim.Native.Nat.{ℕ, _-_, _≤_}
+use mathlib.Core.Path.{_≡_, refl}
+use mathlib.Core.List.{List}
+use mathlib.Core.Bool.{Bool, true, false}
+use mathlib.Core.Option.{Option, none, some}
 use native.Mathlib.Omega.{arith}
-use lib.Dec.{eqb, leb, ltb, lit<, lit≤}
-use lib.IntN.{ℤ, pos, negsuc, natAbs}
+use lib.Dec.{eqb, leb}
+use lib.IntN.{ℤ, natAbs}
 use lib.ListN.{length, length-append}
 use borrow.Author.Tests.{le-leb, leb-true}
 use Rattle.digits.specs.Decimal.{printFixed}
 use Rattle.digits.proofs.DecimalLaws.{length-fixed}
-use Rattle.forms.specs.declared.got.Got.{Got}
-use Rattle.forms.specs.declared.got.GotInt.{GotInt}
 use Rattle.forms.specs.Got.{pick, gotOf, gotIntOf, missing, missingInt, maybeOf, maybeIntOf}
 use Rattle.forms.specs.Fixed.{fixedOf}
-use Rattle.forms.specs.Letters.{isIn, letterOf, unitWrong}
-use Rattle.forms.specs.Number.{numberOf, belowOf, heightOf}
-use Rattle.forms.specs.Plain.{widthOf, plainText, fractionText, numberText}
-use Rattle.forms.specs.Sign.{signed}
 use Rattle.forms.proofs.FixedLaws.{fixed-is}
-use Rattle.forms.proofs.LetterLaws.{letter-is, unit-is}
-use Rattle.forms.proofs.NumberSides.{Written, whole, pointed, WrittenHeight, plain, minus, number-is, below-is, height-is}
 use Rattle.calendar.specs.Time.{isTime, timeOf, clockText}
-use Rattle.calendar.specs.Zone.{zoneFour}
-use Rattle.calendar.proofs.TimeLaws.{TimeText, time-text}
-use Rattle.calendar.proofs.ZoneLaws.{four-range}
-use Rattle.masks.specs.Masks.{hexDigitsOf, satellitesOf, satellitesForm, wholeForm, isPortMask, portMaskOf, portMaskForm}
-use Rattle.masks.specs.Rates.{rateOf, rateForm, codeOf, codeForm}
-use Rattle.masks.proofs.MaskLaws.{hex-lt, satellites-lt, port-mask-is}
-use Rattle.masks.proofs.RateLaws.{rate-range, code-text}
+use Rattle.calendar.proofs.TimeLaws.{time-text}
 use Rattle.digits.proofs.Bools.{and-left, and-right}
-use Rattle.ranges.specs.Ranges.{outside, rangeWrong, signedWrong, letterWrong, portWrong}
-use Rattle.texts.specs.Texts.{ifThere, heightText, letterField, unitField}
-use Rattle.trips.proofs.Plain.{Wide, width-is}
+use Rattle.ranges.specs.Ranges.{outside, rangeWrong, signedWrong}
+use Rattle.texts.specs.Texts.{ifThere}
 
 pub in-outside : (lo hi v : ℕ) → lo ≤ v → v ≤ hi → outside lo hi v ≡ 0
 unfolding outside

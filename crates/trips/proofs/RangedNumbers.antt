@@ -1,21 +1,21 @@
 -- The same of numbers, letters, masks and rates. A number written without needless zeros is the shortest that has its value.
 use Prim.Native.Nat.{ℕ, zero, suc, _+_, _-_, _*_, _/_, _%_, _^_, _≤_, _<_}
-use mathlib.Core.Path.{_≡_, refl, sym, ap, _∙_, subst}
-use mathlib.Core.List.{List, [], _∷_, _++_}
-use mathlib.Core.Bool.{Bool, true, false, cond, _&&_}
-use mathlib.Core.Option.{Option, none, some, Option·some-injective}
+use mathlib.Core.Path.{_≡_, refl}
+use mathlib.Core.List.{List, [], _∷_}
+use mathlib.Core.Bool.{Bool, true, false, cond}
+use mathlib.Core.Option.{Option, none, some}
 use mathlib.Core.Logic.{_⊎_, inl, inr}
 use native.Mathlib.Omega.{arith}
 use native.Mathlib.Nat.{lt-of-lt-of-le, pow-le-pow-right}
-use lib.Dec.{eqb, ltb, lit<, lit≤}
-use lib.IntN.{ℤ, pos, negsuc, natAbs}
+use lib.Dec.{eqb, ltb, lit<}
+use lib.IntN.{ℤ, natAbs}
 use lib.ListN.{length, length-append}
 use borrow.Author.Tests.{eq-eqb, ltb-true, ltb-false}
 use Rattle.digits.specs.Decimal.{printFixed}
 use Rattle.digits.proofs.DecimalLaws.{length-fixed}
 use Rattle.digits.proofs.Bools.{true-false}
 use Rattle.forms.specs.Got.{pick, gotOf, missing, maybeOf, maybeIntOf}
-use Rattle.forms.specs.Letters.{isIn, letterOf, unitWrong}
+use Rattle.forms.specs.Letters.{letterOf, unitWrong}
 use Rattle.forms.specs.Number.{numberOf, belowOf, heightOf}
 use Rattle.forms.specs.Plain.{widthOf, plainText, fractionText, numberText}
 use Rattle.forms.specs.Sign.{signed}
@@ -23,14 +23,14 @@ use Rattle.forms.proofs.LetterLaws.{letter-is, unit-is}
 use Rattle.forms.proofs.NumberSides.{Written, whole, pointed, WrittenHeight, plain, minus, number-is, below-is, height-is}
 use Rattle.calendar.specs.Zone.{zoneFour, fourText}
 use Rattle.calendar.proofs.ZoneLaws.{four-range}
-use Rattle.masks.specs.Masks.{printHex, hexDigitsOf, satellitesOf, satellitesForm, wholeForm, isPortMask, portMaskOf, portMaskForm}
+use Rattle.masks.specs.Masks.{printHex, hexDigitsOf, satellitesOf, satellitesForm, wholeForm, portMaskOf, portMaskForm}
 use Rattle.masks.specs.Rates.{rateOf, rateForm, codeOf, codeForm}
 use Rattle.masks.proofs.MaskLaws.{hex-lt, satellites-lt, port-mask-is}
 use Rattle.masks.proofs.RateLaws.{rate-range, code-text}
 use Rattle.ranges.specs.Ranges.{outside, rangeWrong, signedWrong, letterWrong, portWrong}
 use Rattle.texts.specs.Texts.{ifThere, heightText, letterField, unitField}
 use Rattle.trips.proofs.Plain.{Wide, width-is}
-use Rattle.trips.proofs.Ranged.{in-outside, zero-outside, maybe-in, maybe-short, maybe-int-in, maybe-int-short, told-in}
+use Rattle.trips.proofs.Ranged.{zero-outside, maybe-in, maybe-short, maybe-int-in, maybe-int-short, told-in}
 
 -- No width is more than a number needs.
 width-least : (n k : ℕ) → k ≤ 6 → 1 ≤ k → n < 10 ^ k → widthOf n ≤ k

@@ -1,15 +1,14 @@
 -- The same of positions, the variation, dates and zones.
-use Prim.Native.Nat.{ℕ, zero, suc, _+_, _*_, _≤_, _<_}
+use Prim.Native.Nat.{ℕ, zero, suc, _+_, _*_, _≤_}
 use mathlib.Core.Path.{_≡_, refl, sym, ap, _∙_, subst}
-use mathlib.Core.List.{List, [], _∷_, _++_}
-use mathlib.Core.Bool.{Bool, true, false, cond, _&&_}
+use mathlib.Core.List.{List, []}
+use mathlib.Core.Bool.{Bool, true, false, cond}
 use mathlib.Core.Option.{Option, none, some, bind}
 use mathlib.Core.Logic.{_⊎_, inl, inr}
 use native.Mathlib.Omega.{arith}
-use lib.Dec.{eqb, lit<, lit≤}
-use lib.IntN.{ℤ, pos, negsuc, natAbs}
+use lib.Dec.{eqb, lit≤}
+use lib.IntN.{ℤ, pos, natAbs}
 use lib.ListN.{length, length-append}
-use borrow.Author.Tests.{eq-eqb}
 use Rattle.digits.specs.Ascii.{ascii}
 use Rattle.digits.specs.Decimal.{digitsOf}
 use Rattle.digits.proofs.Bools.{true-false}
@@ -19,21 +18,20 @@ use Rattle.forms.specs.declared.got.Position.{Position}
 use Rattle.forms.specs.Got.{pick, missingInt, withinOf}
 use Rattle.forms.specs.Sign.{signed}
 use Rattle.forms.specs.Angle.{angleText, positionForm, variationForm}
-use Rattle.forms.specs.Plain.{numberText}
 use Rattle.forms.proofs.PositionSides.{Lettered, first, second, Placed, placed, Varied, varied, position-is, position-none, position-empty, variation-is, variation-none, variation-empty}
 use Rattle.calendar.specs.declared.date.GotDate.{GotDate}
 use Rattle.calendar.specs.Calendar.{isDate}
 use Rattle.calendar.specs.Dates.{noDate, theDate, dateAt, dateSix, dateThree, sixText}
-use Rattle.calendar.specs.Zone.{minus, bareOf, zoneAt, gotZoneAt, wrongZone, zoneOf, zoneTwo}
+use Rattle.calendar.specs.Zone.{minus, bareOf, zoneAt, gotZoneAt, zoneOf, zoneTwo}
 use Rattle.calendar.proofs.CalendarLaws.{Ranges, six-sound, three-sound, date-ranges, six-text}
 use Rattle.calendar.proofs.ZoneLaws.{two-range}
 use Rattle.records.specs.Keep.{datedOf, placedOf, signedOf}
 use Rattle.records.specs.declared.values.Place.{Place}
-use Rattle.ranges.specs.Ranges.{outside, rangeWrong, signedWrong, placeWrong, sixWrong, threeWrong}
-use Rattle.texts.specs.Texts.{ifThere, sideText, latField, nsField, lonField, ewField, variationField, variationSide, sixField}
-use Rattle.trips.proofs.CleanTexts.{length-if, length-side}
+use Rattle.ranges.specs.Ranges.{rangeWrong, signedWrong, placeWrong, sixWrong, threeWrong}
+use Rattle.texts.specs.Texts.{ifThere, latField, nsField, lonField, ewField, variationField, variationSide, sixField}
+use Rattle.trips.proofs.CleanTexts.{length-side}
 use Rattle.trips.proofs.Ranged.{in-outside, zero-outside}
-use Rattle.trips.proofs.RangedNumbers.{Shortest, shortest}
+use Rattle.trips.proofs.RangedNumbers.{shortest}
 
 signed-good : (hi : ℕ) (z : ℤ) → natAbs z ≤ hi → signedWrong hi true z ≡ 0
 unfolding signedWrong rangeWrong

@@ -1,32 +1,31 @@
 -- What is written of a value in its range is read as that value: each form's two sides, met from the writer's.
-use Prim.Native.Nat.{ℕ, zero, suc, _+_, _-_, _*_, _/_, _%_, _^_, _≤_, _<_}
-use mathlib.Core.Path.{_≡_, refl, sym, ap, _∙_, subst}
+use Prim.Native.Nat.{ℕ, _+_, _-_, _/_, _%_, _^_, _≤_, _<_}
+use mathlib.Core.Path.{_≡_, refl, sym, ap}
 use mathlib.Core.List.{List, [], _∷_, _++_}
 use mathlib.Core.Bool.{Bool, true, false, cond, _&&_, _||_, true≢false}
-use mathlib.Core.Option.{Option, none, some}
+use mathlib.Core.Option.{Option, some}
 use native.Mathlib.Omega.{arith}
 use lib.Dec.{eqb, leb, ltb, lit<, lit≤}
 use lib.IntN.{ℤ, pos, negsuc, natAbs}
 use lib.ListN.{length, length-append}
 use borrow.Author.Tests.{leb-true, le-leb, lt-ltb, le-ltb, eqb-true, ne-eqb}
-use Rattle.digits.specs.Ascii.{ascii}
 use Rattle.digits.specs.Decimal.{printFixed}
 use Rattle.digits.proofs.Bools.{and-left, and-right}
 use Rattle.digits.proofs.DecimalLaws.{length-fixed}
 use Rattle.forms.specs.declared.got.Got.{Got}
 use Rattle.forms.specs.declared.got.GotInt.{GotInt}
-use Rattle.forms.specs.Got.{pick, gotOf, gotIntOf, missing, missingInt, maybeOf, maybeIntOf}
+use Rattle.forms.specs.Got.{gotOf, maybeOf, maybeIntOf}
 use Rattle.forms.specs.Fixed.{fixedOf}
 use Rattle.forms.specs.Letters.{isIn, letterOf, unitWrong, emptyWrong}
 use Rattle.forms.specs.Number.{numberOf, belowOf, heightOf}
-use Rattle.forms.specs.Plain.{widthOf, plainText, fractionText, numberText}
+use Rattle.forms.specs.Plain.{widthOf, plainText, numberText}
 use Rattle.forms.proofs.FixedLaws.{fixed-reads}
 use Rattle.forms.proofs.LetterLaws.{letter-reads, unit-letter, unit-empty}
 use Rattle.forms.proofs.NumberSides.{number-reads, below-reads, height-reads, not-empty}
 use Rattle.calendar.specs.Time.{isTime, timeOf, clockText}
-use Rattle.calendar.proofs.TimeLaws.{TimeText, text-time}
-use Rattle.masks.specs.Masks.{printHex, hexDigitsOf, satellitesOf, satellitesForm, wholeForm, isPortMask, portMaskOf, portMaskForm}
-use Rattle.masks.specs.Rates.{rateOf, rateForm, codeOf, codeForm}
+use Rattle.calendar.proofs.TimeLaws.{text-time}
+use Rattle.masks.specs.Masks.{printHex, satellitesOf, satellitesForm, wholeForm, isPortMask, portMaskForm}
+use Rattle.masks.specs.Rates.{rateOf, rateForm, codeForm}
 use Rattle.masks.proofs.MaskText.{length-hex, text-satellites, text-whole, text-port}
 use Rattle.masks.proofs.RateLaws.{text-rate, text-code}
 use Rattle.ranges.specs.Ranges.{outside, rangeWrong, signedWrong, letterWrong, portWrong}

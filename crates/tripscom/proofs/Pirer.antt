@@ -4,7 +4,6 @@ use lib.Dec.{eqb, lit<, lit≤}
 use lib.ListN.{getD, length}
 use mathlib.Core.List.{List, [], _∷_}
 use mathlib.Core.Path.{_∙_, _≡_, ap, refl}
-use native.Mathlib.Omega.{arith}
 use Rattle.address.specs.declared.Address.{Address}
 use Rattle.commands.specs.Pirer.{pirerFrom, pirerOf}
 use Rattle.digits.specs.Ascii.{ascii}

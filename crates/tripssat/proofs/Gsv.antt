@@ -22,14 +22,13 @@ use Rattle.satellites.specs.View.{entriesOf, entryAt, entryForm, entryFrom, fir
 use Rattle.reading.specs.Lines.{addressed, readLine}
 use Rattle.records.specs.Answers.{answeredBeside}
 use Rattle.records.specs.Blank.{blankEntry, blankGsa}
-use Rattle.records.specs.Wrong.{After, after, firstWrong, nearOf}
+use Rattle.records.specs.Wrong.{after, firstWrong, nearOf}
 use Rattle.ranges.specs.Ranges.{outside}
 use Rattle.records.specs.declared.Entry.{Entry}
 use Rattle.records.specs.declared.Gsv.{Gsv}
 use Rattle.records.specs.declared.Reading.{Reading}
 use Rattle.records.specs.declared.values.Maybe.{Maybe}
 use Rattle.sealing.specs.Body.{talkerText}
-use Rattle.sealing.specs.declared.Written.{Written}
 use Rattle.sealing.specs.Written.{pick, refused, wrote}
 use Rattle.texts.specs.Texts.{maybeText}
 use Rattle.trips.proofs.Back.{read-back}

@@ -1,9 +1,9 @@
 -- What was read of a GSV sentence can be written: its used entries are in range, since no field of theirs was wrong, and the others blank.
-use Prim.Native.Nat.{ℕ, zero, suc, _+_, _≤_, _<_}
-use lib.Dec.{eqb, ltb, lit≤}
+use Prim.Native.Nat.{ℕ, zero, suc, _+_}
+use lib.Dec.{eqb, ltb}
 use lib.ListN.{length}
 use borrow.Author.Tests.{eqb-true, le-ltb, ltb-false, ne-eqb}
-use mathlib.Core.Bool.{Bool, true, false, cond, _&&_, _||_}
+use mathlib.Core.Bool.{Bool, true, false, _||_}
 use mathlib.Core.List.{List, [], _++_, _∷_}
 use mathlib.Core.Path.{_≡_, refl}
 use native.Mathlib.Omega.{arith}
@@ -11,16 +11,13 @@ use Rattle.address.specs.declared.Talker.{Talker}
 use Rattle.digits.proofs.Bools.{and-both}
 use Rattle.forms.specs.Got.{pick}
 use Rattle.kinds.specs.Kinds.{exactForm, fixedForm}
-use Rattle.satellites.specs.declared.gsv.GotEntry.{GotEntry}
-use Rattle.satellites.specs.View.{entriesOf, entryAt, entryForm, entryFrom, firstOf, gsvFrom, gsvOf, gsvWith, noEntry}
+use Rattle.satellites.specs.View.{entriesOf, entryAt, entryForm, entryFrom, firstOf, gsvFrom, gsvOf, gsvWith}
 use Rattle.records.specs.Answers.{answeredBeside}
-use Rattle.records.specs.Blank.{aloneOf, blankEntry, blankGsa}
-use Rattle.records.specs.Keep.{keptOf}
+use Rattle.records.specs.Blank.{aloneOf, blankEntry}
 use Rattle.records.specs.Wrong.{After, after, firstWrong}
-use Rattle.records.specs.declared.Entry.{Entry}
 use Rattle.records.specs.declared.Gsv.{Gsv}
 use Rattle.records.specs.declared.Reading.{Reading}
-use Rattle.sealing.specs.Written.{refused, wrote}
+use Rattle.sealing.specs.Written.{wrote}
 use Rattle.trips.proofs.Known.{Zero, all-zero, zero-all}
 use Rattle.trips.proofs.Places.{first-zero}
 use Rattle.trips.proofs.Ranged.{exact-in, fixed-in}

@@ -1,5 +1,4 @@
 -- Lists of a known length are their elements: the satellites of GSA, the entries of GSV.
-use Prim.Native.Nat.{ℕ}
 use mathlib.Core.Path.{_≡_, refl}
 use mathlib.Core.List.{List, [], _∷_}
 use native.Mathlib.Omega.{arith}

@@ -1,7 +1,7 @@
 -- The values of an entry are looked at where it is used, and passed over where it is not.
 use Prim.Native.Nat.{ℕ, _+_}
 use mathlib.Core.Path.{_≡_, refl, sym, ap, _∙_}
-use mathlib.Core.List.{List, [], _++_}
+use mathlib.Core.List.{List, _++_}
 use mathlib.Core.Bool.{Bool, true, false, cond}
 use Rattle.records.specs.declared.Entry.{Entry}
 use Rattle.records.specs.Wrong.{After, nearOf, firstWrong}

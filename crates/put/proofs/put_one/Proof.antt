@@ -1,8 +1,5 @@
 -- One digit is one byte.
 use Rattle.put.proofs.Chain.{one-digit}
-use mathlib.Core.Path.{sym, ap}
-use mathlib.Core.List.{[], _∷_}
-use Prim.Native.Nat.{ℕ}
 use borrow.Author.Needs.{needs}
 use Rattle.put.proofs.put_one.Statement.{statement}
 use Rattle.put.proofs.put_one.Tie as tie

@@ -1,5 +1,5 @@
 -- By whether the value is there.
-use mathlib.Core.Path.{_≡_, sym, _∙_}
+use mathlib.Core.Path.{_∙_}
 use Rattle.ranges.specs.Ranges.{rangeWrong}
 use borrow.Author.Needs.{needs}
 use Rattle.ranges.proofs.maybe.Statement.{statement}

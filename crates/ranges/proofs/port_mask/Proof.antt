@@ -1,5 +1,5 @@
 -- By whether the mask is there.
-use mathlib.Core.Path.{_≡_, sym, _∙_}
+use mathlib.Core.Path.{_∙_}
 use Rattle.ranges.specs.Ranges.{portWrong}
 use borrow.Author.Needs.{needs}
 use Rattle.ranges.proofs.port_mask.Statement.{statement}

@@ -1,5 +1,5 @@
 -- The value without its sign, in its range.
-use mathlib.Core.Path.{_≡_, sym, _∙_}
+use mathlib.Core.Path.{_∙_}
 use mir.Syntax.{w32}
 use mir.Facts.{toZ-ofZ}
 use Rattle.ranges.specs.Ranges.{signedWrong}

@@ -1,5 +1,4 @@
 -- A date that is there is one of the calendar; a missing one is zero.
-use mathlib.Core.Path.{_≡_, sym, _∙_}
 use Rattle.ranges.specs.Ranges.{sixWrong}
 use borrow.Author.Needs.{needs}
 use Rattle.ranges.proofs.six.Statement.{statement}

@@ -1,7 +1,4 @@
 -- A negative number is negated in 64 bits, where it fits; the others stay.
-use mathlib.Core.Path.{ap}
-use lib.IntN.{natAbs}
-use mir.Facts.{toZ-ofZ}
 use Rattle.ranges.proofs.Signs.{widened, negated, negated-plain, negated-size, kept-plain}
 use borrow.Author.Needs.{needs}
 use Rattle.ranges.proofs.size.Statement.{statement}

@@ -1,5 +1,4 @@
 -- Day, month, then the whole date.
-use mathlib.Core.Path.{_≡_, sym, _∙_}
 use borrow.Author.Tests.{eq-eqb, ne-eqb}
 use Rattle.ranges.specs.Ranges.{threeWrong}
 use borrow.Author.Needs.{needs}

@@ -1,5 +1,5 @@
 -- By whether a field is wrong.
-use mathlib.Core.Path.{_≡_, refl, sym, ap, _∙_}
+use mathlib.Core.Path.{_∙_}
 use Rattle.sealing.proofs.Sealing.{fault-none, fault-some}
 use borrow.Author.Needs.{needs}
 use Rattle.sealing.proofs.fault.Statement.{statement}

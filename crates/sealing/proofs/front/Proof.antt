@@ -1,7 +1,6 @@
 -- A part, or all.
-use mathlib.Core.Path.{_≡_, refl, sym, ap, _∙_}
+use mathlib.Core.Path.{sym}
 use native.Mathlib.Nat.{sub-zero}
-use lib.ListN.{take}
 use lib.Seq.{take-all}
 use borrow.Author.Needs.{needs}
 use Rattle.sealing.proofs.front.Statement.{statement}

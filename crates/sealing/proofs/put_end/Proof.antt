@@ -1,5 +1,4 @@
 -- The star, the two digits, CR and LF.
-use native.Mathlib.Omega.{arith}
 use Rattle.put.proofs.Chain.{_⨾_}
 use Rattle.sealing.proofs.Sealing.{high-half}
 use borrow.Author.Needs.{needs}

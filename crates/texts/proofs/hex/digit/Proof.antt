@@ -1,5 +1,5 @@
 -- The last digit of the last digit.
-use mathlib.Core.Path.{_≡_, ap, sym, _∙_}
+use mathlib.Core.Path.{_≡_, ap, _∙_}
 use native.Mathlib.Omega.{arith}
 use Prim.Native.Nat.{ℕ, _%_}
 use Rattle.digits.specs.Hex.{hexOf}

@@ -1,6 +1,5 @@
 -- The address, then the field.
 use Rattle.digits.specs.Decimal.{printFixed}
-use Rattle.put.specs.Wrote.{PutsFields}
 use Rattle.sealing.proofs.Sealing.{body-put}
 use Rattle.writecom.specs.Pirer.{pirerFields}
 use borrow.Author.Needs.{needs}

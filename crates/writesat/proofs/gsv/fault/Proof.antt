@@ -1,5 +1,5 @@
 -- The tests in their order.
-use mathlib.Core.Path.{_≡_, refl, sym, ap, _∙_}
+use mathlib.Core.Path.{_∙_}
 use borrow.Author.Tests.{lt-ltb, le-ltb, eq-eqb, ne-eqb}
 use Rattle.sealing.specs.Written.{faultAt}
 use Rattle.writesat.specs.Gsv.{gsvFault}
