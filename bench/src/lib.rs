@@ -2,3 +2,4 @@
 
 pub mod plain;
 pub mod read;
+pub mod write;

@@ -3,6 +3,7 @@
 mod log;
 mod rattle;
 mod records;
+mod writing;
 
 use bench::plain;
 use std::time::Instant;
@@ -171,9 +172,34 @@ fn main() {
     records::agree(&cut(&mixed));
     let race_reading = |lines: &[&[u8]]| race(&|| records::all_by_rattle(lines), &|| records::all_by_rust(lines));
     show("line read to its record", race_reading(&lines));
-    for (what, lines) in records::chosen(&mixed) {
-        row(&what, lines.iter().map(|l| l.len()).sum(), lines.len(), race_reading(&lines));
+    let chosen = records::chosen(&mixed);
+    for (kind, lines) in &chosen {
+        let what = match *kind {
+            "" => "line read to its record, fifteen kinds, none refused".to_string(),
+            kind => format!("{} read to its record", kind),
+        };
+        row(&what, lines.iter().map(|l| l.len()).sum(), lines.len(), race_reading(lines));
     }
+    writing::agree(&lines);
+    writing::agree(&cut(&mixed));
+    let show = |what: &str, lines: &[&[u8]]| {
+        let (bytes, count) = writing::size(lines);
+        row(what, bytes, count, race(&|| writing::all_by_rattle(lines), &|| writing::all_by_rust(lines)));
+    };
+    show("record written", &writing::chosen(&lines));
+    for (kind, lines) in &chosen {
+        let what = match *kind {
+            "" => "record written, fifteen kinds".to_string(),
+            kind => format!("{} written", kind),
+        };
+        show(&what, &writing::chosen(lines));
+    }
+    let show_each = |what: &str, lines: &[&[u8]]| {
+        let (bytes, count) = writing::size_each(lines);
+        row(what, bytes, count, race(&|| writing::each_by_rattle(lines), &|| writing::each_by_rust(lines)));
+    };
+    show_each("line read and its record written", &lines);
+    show_each("line read and its record written, fifteen kinds, none refused", &chosen[0].1);
 }
 
 #[test]
@@ -181,4 +207,5 @@ fn both_sides_agree() {
     let log = log::log(7, 1 << 18);
     agree(&log);
     records::agree(&cut(&log));
+    writing::agree(&cut(&log));
 }

@@ -1,4 +1,5 @@
-//! The proved functions. Nothing checks these declarations against `crates/host/src/lib.rt`: a slice is
+//! The proved functions. Nothing checks these declarations against `crates/host/src/lib.rt` and
+//! `crates/timing/src/lib.rt`: a slice is
 //! passed as a pointer and a length, a `&mut usize` as a pointer.
 
 extern "C" {
@@ -7,6 +8,7 @@ extern "C" {
     fn castanwel_places(body: *const u8, body_len: usize, ends: *mut usize, ends_len: usize) -> usize;
     fn castanwel_feed(held: usize, b: u8, line: *mut usize) -> usize;
     fn castanwel_read(line: *const u8, line_len: usize, field: *mut usize) -> u8;
+    fn castanwel_write_times(line: *const u8, line_len: usize, out: *mut u8, out_len: usize, times: usize) -> usize;
 }
 
 /// 0 where `line` is a line, 1 where the line rule fails, 2 where the digits differ.
@@ -24,6 +26,12 @@ pub fn read(line: &[u8]) -> (u8, usize) {
     let mut field = 0;
     let no = unsafe { castanwel_read(line.as_ptr(), line.len(), &mut field) };
     (no, field)
+}
+
+/// Reads `line` once and writes its record `times` times into `out`, from 0 and from 1 on in turns. The
+/// length of the last line written; 0 where the line does not read or the writer refused.
+pub fn write_times(line: &[u8], out: &mut [u8], times: usize) -> usize {
+    unsafe { castanwel_write_times(line.as_ptr(), line.len(), out.as_mut_ptr(), out.len(), times) }
 }
 
 /// Where the first line from `at` on lies, or `None`.

@@ -1,9 +1,9 @@
 //! A line of any of the fifteen kinds read to its record.
 
 mod fields;
-mod forms;
+pub mod forms;
 mod maker;
-mod records;
+pub mod records;
 mod standard;
 
 use crate::plain;
