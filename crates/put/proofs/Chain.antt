@@ -154,3 +154,10 @@ fields-length h (f ∷ fs) = fields-length (wrote h (44 ∷ f)) fs ∙ wrote-len
 
 pub fields-kept : {p q : ℕ} {d e : List ℕ} {fs : List (List ℕ)} → PutsFields (held p d) fs (held q e) → length e ≡ length d
 fields-kept {p} {q} {d} {e} {fs} w = ap (λ (k : Held). length (k .bytes)) (w .is) ∙ fields-length (held p d) fs
+
+-- The bytes from place i on, stored one after another.
+pub copy-next : (s out : List ℕ) (at i : ℕ) → i < length s → at + i < length out
+    → wrote (held (at + (i + 1)) (set out (at + i) (getD s i 0))) (drop (i + 1) s) ≡ wrote (held (at + i) out) (drop i s)
+copy-next s out at i l h =
+    let e : at + (i + 1) ≡ at + i + 1 = omega arith in
+    rw e (put-next s i l (put-room (at + i) out (getD s i 0) h))

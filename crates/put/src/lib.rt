@@ -2,7 +2,8 @@
 // is room, leaves all other bytes, and answers the next place.
 ghost use mathlib.Core.Path.{_≡_};
 ghost use mathlib.Core.List.{[], _∷_};
-ghost use Prim.Native.Nat.{_+_, _%_};
+ghost use Prim.Native.Nat.{_+_, _%_, _≤_};
+ghost use lib.ListN.{length};
 ghost use Rattle.digits.specs.Decimal.{printFixed};
 ghost use Rattle.put.specs.Wrote.{held, Puts};
 ghost use Rattle.forms.specs.Plain.{plainText, fractionText, numberText};
@@ -17,7 +18,20 @@ pub fn put(out: &mut [u8], at: usize, b: u8) -> usize
     at
 }
 
-pub fn put_bytes(out: &mut [u8], at: usize, s: &[u8]) -> usize
+// Stores the bytes of `s` from place `at` on, where there is room for all of them.
+fn copy(out: &mut [u8], at: usize, s: &[u8]) -> usize
+    requires { ⌜ at + length (now s) ≤ length (now out) ⌝ }
+    ensures { λ r. ⌜ Puts (held at (now (out .entry))) (now (s .entry)) (held r (now (out .exit))) ⌝ }
+{
+    let mut i: usize = 0;
+    while i < s.len() {
+        out[at + i] = s[i];
+        i += 1;
+    }
+    at + i
+}
+
+fn put_each(out: &mut [u8], at: usize, s: &[u8]) -> usize
     ensures { λ r. ⌜ Puts (held at (now (out .entry))) (now (s .entry)) (held r (now (out .exit))) ⌝ }
 {
     let mut place = at;
@@ -27,6 +41,17 @@ pub fn put_bytes(out: &mut [u8], at: usize, s: &[u8]) -> usize
         i += 1;
     }
     place
+}
+
+pub fn put_bytes(out: &mut [u8], at: usize, s: &[u8]) -> usize
+    ensures { λ r. ⌜ Puts (held at (now (out .entry))) (now (s .entry)) (held r (now (out .exit))) ⌝ }
+{
+    if s.len() <= out.len() {
+        if at <= out.len() - s.len() {
+            return copy(out, at, s);
+        }
+    }
+    put_each(out, at, s)
 }
 
 // The last digit of `v`.

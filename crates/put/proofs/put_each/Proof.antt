@@ -5,8 +5,8 @@ use native.Mathlib.Omega.{arith}
 use lib.ListN.{length, drop}
 use Rattle.put.specs.Wrote.{held, wrote}
 use Rattle.put.proofs.Chain.{put-next, put-end}
-use Rattle.put.proofs.put_bytes.Statement.{statement}
-use Rattle.put.proofs.put_bytes.Tie as tie
+use Rattle.put.proofs.put_each.Statement.{statement}
+use Rattle.put.proofs.put_each.Tie as tie
 
 abbrev Inv-loop : tie.InvT-loop
 Inv-loop out₀ at s place₀ i₀ out place i = (i ≤ length s) × ((length out ≡ length out₀) × (wrote (held place out) (drop i s) ≡ wrote (held at out₀) s))
@@ -38,8 +38,8 @@ same-length c = c .before .loop .inv .1 .0
 returns : tie.Need-returns Inv-loop μ-loop
 returns c = record { is = put-end (c .before .before .before .before .args .s .now) (c .before .loop .i) (held (c .before .loop .place) (c .before .loop .out)) (c .loop-test .left) ∙ c .before .loop .inv .1 .1 }
 
-pub put-bytes-spec : {M : Type 1} → statement M
-put-bytes-spec =
+pub put-each-spec : {M : Type 1} → statement M
+put-each-spec =
     tie.close
     (tie.spec
     Inv-loop
