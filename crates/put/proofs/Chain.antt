@@ -161,3 +161,19 @@ pub copy-next : (s out : List ℕ) (at i : ℕ) → i < length s → at + i < le
 copy-next s out at i l h =
     let e : at + (i + 1) ≡ at + i + 1 = omega arith in
     rw e (put-next s i l (put-room (at + i) out (getD s i 0) h))
+
+-- Two digits where there is room for both, and where there may not be; and four in two steps.
+pub two-room : (p v : ℕ) (d : List ℕ) → p + 2 ≤ length d
+    → Puts (held p d) (printFixed 2 v) (held (p + 2) (set (set d p (48 + v / 10 % 10)) (p + 1) (48 + v % 10)))
+unfolding printFixed
+two-room p v d h =
+    let e : p + 2 ≡ p + 1 + 1 = omega arith in
+    rw e (put-room p d (48 + v / 10 % 10) (omega arith) ⨾ put-room (p + 1) (set d p (48 + v / 10 % 10)) (48 + v % 10) (rw (length-set d p (48 + v / 10 % 10)) (omega arith)))
+
+pub two-digits : {h g k : Held} (v : ℕ) → Puts h ((48 + v / 10 % 10) ∷ []) g → Puts g ((48 + v % 10) ∷ []) k → Puts h (printFixed 2 v) k
+unfolding printFixed
+two-digits v e f = e ⨾ f
+
+pub four-digits : {h g k : Held} (v : ℕ) → Puts h (printFixed 2 (v / 10 / 10)) g → Puts g (printFixed 2 v) k → Puts h (printFixed 4 v) k
+unfolding printFixed
+four-digits v e f = e ⨾ f

@@ -71,8 +71,17 @@ pub fn put_one(out: &mut [u8], at: usize, v: u32) -> usize
 pub fn put_two(out: &mut [u8], at: usize, v: u32) -> usize
     ensures { λ r. ⌜ Puts (held at (now (out .entry))) (printFixed 2 v) (held r (now (out .exit))) ⌝ }
 {
-    let a = put_one(out, at, v / 10);
-    put_one(out, a, v)
+    let tens = digit(v / 10);
+    let units = digit(v);
+    if 2 <= out.len() {
+        if at <= out.len() - 2 {
+            out[at] = tens;
+            out[at + 1] = units;
+            return at + 2;
+        }
+    }
+    let a = put(out, at, tens);
+    put(out, a, units)
 }
 
 pub fn put_three(out: &mut [u8], at: usize, v: u32) -> usize
@@ -85,8 +94,8 @@ pub fn put_three(out: &mut [u8], at: usize, v: u32) -> usize
 pub fn put_four(out: &mut [u8], at: usize, v: u32) -> usize
     ensures { λ r. ⌜ Puts (held at (now (out .entry))) (printFixed 4 v) (held r (now (out .exit))) ⌝ }
 {
-    let a = put_three(out, at, v / 10);
-    put_one(out, a, v)
+    let a = put_two(out, at, v / 10 / 10);
+    put_two(out, a, v)
 }
 
 fn put_five(out: &mut [u8], at: usize, v: u32) -> usize

@@ -1,11 +1,11 @@
--- The digits before the last, then the last.
-use Rattle.put.proofs.Chain.{one-more}
+-- The first two, then the last two.
+use Rattle.put.proofs.Chain.{four-digits}
 use borrow.Author.Needs.{needs}
 use Rattle.put.proofs.put_four.Statement.{statement}
 use Rattle.put.proofs.put_four.Tie as tie
 
 returns : tie.Need-returns
-returns c = one-more 3 (c .before .before .before .before .before .before .before .before .before .args .v) (c .before .before .before .before .before .before .put-three .ensures) (c .before .before .put-one .ensures)
+returns c = four-digits (c .before .before .before .before .before .before .before .before .before .args .v) (c .before .before .before .before .before .before .put-two .ensures) (c .before .before .put-two2 .ensures)
 
 pub put-four-spec : {M : Type 1} → statement M
 put-four-spec = tie.close (tie.spec (λ c κs. search needs) (λ c κs. search needs) (λ c. search needs) returns)
