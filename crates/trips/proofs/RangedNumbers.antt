@@ -127,7 +127,7 @@ module _ (hi : ℕ) where
   below-short = maybe-short (belowOf (hi + 1)) numberText 0 hi (λ f v e. shortest (below-is (hi + 1) f v e .0) .short)
 
 -- Heights: minus zero is written without its minus.
-signed-size : (v : ℕ) → natAbs (signed true v) ≡ v
+pub signed-size : (v : ℕ) → natAbs (signed true v) ≡ v
 signed-size zero = refl
 signed-size (suc v) = refl
 

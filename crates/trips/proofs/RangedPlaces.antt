@@ -31,7 +31,7 @@ use Rattle.ranges.specs.Ranges.{rangeWrong, signedWrong, placeWrong, sixWrong, 
 use Rattle.texts.specs.Texts.{ifThere, latField, nsField, lonField, ewField, variationField, variationSide, sixField}
 use Rattle.trips.proofs.CleanTexts.{length-side}
 use Rattle.trips.proofs.Ranged.{in-outside, zero-outside}
-use Rattle.trips.proofs.RangedNumbers.{shortest}
+use Rattle.trips.proofs.RangedNumbers.{shortest, signed-size}
 
 signed-good : (hi : ℕ) (z : ℤ) → natAbs z ≤ hi → signedWrong hi true z ≡ 0
 unfolding signedWrong rangeWrong
@@ -42,10 +42,6 @@ unfolding signedWrong rangeWrong
 signed-missing hi = zero-outside
 
 -- A value with one of its letters.
-signed-size : (v : ℕ) → natAbs (signed true v) ≡ v
-signed-size zero = refl
-signed-size (suc v) = refl
-
 lettered-size : (plus minus : List ℕ) {v : ℕ} {u : List ℕ} {z : ℤ} → Lettered plus minus v u z → natAbs z ≡ v
 lettered-size plus minus first = refl
 lettered-size plus minus {v} second = signed-size v
