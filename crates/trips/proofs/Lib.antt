@@ -10,3 +10,4 @@ pub mod Ranged
 pub mod Alike
 pub mod RangedNumbers
 pub mod RangedPlaces
+pub mod SameTexts

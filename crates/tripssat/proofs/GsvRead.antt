@@ -30,7 +30,7 @@ zero-append [] m p q = q
 zero-append (a ∷ l) m p q = (p .0, zero-append l m (p .1) q)
 
 -- Four fields of which none is wrong.
-first-none : (a b c d : ℕ) → firstOf a b c d ≡ 0 → (a ≡ 0) × ((b ≡ 0) × ((c ≡ 0) × (d ≡ 0)))
+pub first-none : (a b c d : ℕ) → firstOf a b c d ≡ 0 → (a ≡ 0) × ((b ≡ 0) × ((c ≡ 0) × (d ≡ 0)))
 unfolding firstOf
 first-none a b c d e =
     let p = first-zero a (λ q. omega arith) e in
