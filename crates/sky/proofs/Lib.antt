@@ -1,1 +1,3 @@
 pub mod Damage
+pub mod MarkLaws
+pub mod Numbers
