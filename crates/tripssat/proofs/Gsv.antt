@@ -63,7 +63,7 @@ good-is r e = go (ltb 4 (r .count)) (eqb (gsvWrong r) 0) (restBlank r) refl refl
     go false true true p q s i = record { few = ltb-false 4 (r .count) p; values = eqb-true (gsvWrong r) 0 q; blank = s }
 
 -- A used entry is read back; four good values make it.
-abbrev theEntry : Entry → GotEntry
+abbrev pub theEntry : Entry → GotEntry
 theEntry e = record { wrong = 0; entry = e }
 
 entry-made : (e : Entry)
@@ -99,7 +99,7 @@ missing-is m e = go (m .there) refl
     go true q = absurd (true-false (and-left (not (m .there)) (eqb (m .value) 0) e) (ap not q))
     go false q = ap (λ (t : Bool). record { there = t; value = m .value }) q ∙ ap (λ (x : ℕ). record { there = false; value = x }) v
 
-blank-is : (e : Entry) → isBlank e ≡ true → theEntry blankEntry ≡ theEntry e
+pub blank-is : (e : Entry) → isBlank e ≡ true → theEntry blankEntry ≡ theEntry e
 unfolding isBlank
 blank-is e b =
     let n = eqb-true (e .number) 0 (and-left _ _ b) in
@@ -127,17 +127,17 @@ module _ (r : Gsv) (b : restBlank r ≡ true) where
   rest-two : (used r 2 || isBlank (entryOf r 2)) && (used r 3 || isBlank (entryOf r 3)) ≡ true
   rest-two = and-right (used r 1 || isBlank (entryOf r 1)) _ rest-one
 
-  blank-0 : used r 0 ≡ false → theEntry blankEntry ≡ theEntry (entryOf r 0)
+  pub blank-0 : used r 0 ≡ false → theEntry blankEntry ≡ theEntry (entryOf r 0)
   unfolding restBlank
   blank-0 f = blank-is (entryOf r 0) (unused (used r 0) (isBlank (entryOf r 0)) (and-left _ _ b) f)
 
-  blank-1 : used r 1 ≡ false → theEntry blankEntry ≡ theEntry (entryOf r 1)
+  pub blank-1 : used r 1 ≡ false → theEntry blankEntry ≡ theEntry (entryOf r 1)
   blank-1 f = blank-is (entryOf r 1) (unused (used r 1) (isBlank (entryOf r 1)) (and-left _ _ rest-one) f)
 
-  blank-2 : used r 2 ≡ false → theEntry blankEntry ≡ theEntry (entryOf r 2)
+  pub blank-2 : used r 2 ≡ false → theEntry blankEntry ≡ theEntry (entryOf r 2)
   blank-2 f = blank-is (entryOf r 2) (unused (used r 2) (isBlank (entryOf r 2)) (and-left _ _ rest-two) f)
 
-  blank-3 : used r 3 ≡ false → theEntry blankEntry ≡ theEntry (entryOf r 3)
+  pub blank-3 : used r 3 ≡ false → theEntry blankEntry ≡ theEntry (entryOf r 3)
   blank-3 f = blank-is (entryOf r 3) (unused (used r 3) (isBlank (entryOf r 3)) (and-right (used r 2 || isBlank (entryOf r 2)) _ rest-two) f)
 
 -- The fields of an entry, used or not.
