@@ -37,15 +37,15 @@ good-drop (suc i) [] g = tt
 good-drop (suc i) (e ∷ es) g = good-drop i es (g .1)
 
 -- No number twice in two lists, one after the other: none in the first, and none in the second behind it.
-or-none : (a b : Bool) → a ≡ false → b ≡ false → (a || b) ≡ false
+pub or-none : (a b : Bool) → a ≡ false → b ≡ false → (a || b) ≡ false
 or-none true b p q = p
 or-none false b p q = q
 
-none-left : (a b : Bool) → (a || b) ≡ false → a ≡ false
+pub none-left : (a b : Bool) → (a || b) ≡ false → a ≡ false
 none-left true b e = e
 none-left false b e = refl
 
-none-right : (a b : Bool) → (a || b) ≡ false → b ≡ false
+pub none-right : (a b : Bool) → (a || b) ≡ false → b ≡ false
 none-right true true e = e
 none-right true false e = refl
 none-right false b e = e

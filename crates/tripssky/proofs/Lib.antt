@@ -2,3 +2,5 @@ pub mod Numbers
 pub mod InRange
 pub mod LineGood
 pub mod ReadWrite
+pub mod Took
+pub mod WriteRead

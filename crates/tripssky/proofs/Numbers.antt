@@ -1,6 +1,6 @@
 -- How many lines so many satellites take, in numbers: either none and one line, or the quotient rounded up.
 use Prim.Native.Nat.{ℕ, zero, suc, _+_, _-_, _*_, _/_, _≤_}
-use mathlib.Core.Path.{_≡_, refl, sym, _∙_, subst}
+use mathlib.Core.Path.{_≡_, refl, sym, _∙_, ap, subst}
 use mathlib.Core.List.{List}
 use mathlib.Core.Bool.{Bool, true, false}
 use native.Mathlib.Omega.{arith}
@@ -40,6 +40,15 @@ module _ (n : ℕ) where
       go : (b : Bool) → ltb 4 (n - 4 * (k - 1)) ≡ b → entriesAt n k ≡ n - 4 * (k - 1) - (n - 4 * (k - 1) - 4)
       go true q = let h = ltb-true 4 (n - 4 * (k - 1)) q in omega (arith, h, at-four n k h)
       go false q = let h = ltb-false 4 (n - 4 * (k - 1)) q in omega (arith, h, at-left n k h)
+
+  -- With those of line k, so many have been before line k + 1.
+  pub so-many : (k : ℕ) → 1 ≤ k → 4 * (k - 1) ≤ n → 4 * (k - 1) + entriesAt n k ≡ n - (n - 4 * (k + 1 - 1))
+  so-many k from h =
+      let a : 4 * (k + 1 - 1) ≡ 4 * (k - 1) + 4 = omega arith in
+      ap (λ (m : ℕ). 4 * (k - 1) + m) (entries-at k) ∙ up (4 * (k - 1)) h ∙ ap (λ (m : ℕ). n - (n - m)) (sym a)
+    where
+      up : (b : ℕ) → b ≤ n → b + (n - b - (n - b - 4)) ≡ n - (n - (b + 4))
+      up b p = omega arith
 
 length-four : {A : Type 0} (l : List A) → length (take 4 l) ≡ length l - (length l - 4)
 length-four l = go (ltb 4 (length l)) refl
