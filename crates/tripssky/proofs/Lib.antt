@@ -4,3 +4,4 @@ pub mod LineGood
 pub mod ReadWrite
 pub mod Took
 pub mod WriteRead
+pub mod Exactly
