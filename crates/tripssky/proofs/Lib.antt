@@ -5,3 +5,4 @@ pub mod ReadWrite
 pub mod Took
 pub mod WriteRead
 pub mod Exactly
+pub mod Half
