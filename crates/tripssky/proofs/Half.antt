@@ -23,13 +23,13 @@ use Rattle.records.specs.declared.Entry.{Entry}
 use Rattle.records.specs.declared.Gsv.{Gsv}
 use Rattle.records.specs.Blank.{blankEntry}
 use Rattle.writesat.specs.Gsv.{gsvBody}
-use Rattle.sky.specs.Group.{Answer, whole, refused, Seen, linesFor, sameTalker, follows, numbered, repeats, seen, rule, ended, groupOf}
+use Rattle.sky.specs.Group.{Answer, whole, refused, Seen, linesFor, sameTalker, follows, numbered, repeats, seen, ended, groupOf}
 use Rattle.sky.specs.Sky.{tableOf}
 use Rattle.sky.specs.Table.{lineAt, groupText}
 use Rattle.tripssky.proofs.Exactly.{plain, plains, plain-good, plains-in-range}
 use Rattle.tripssky.proofs.InRange.{InRange, good-append}
-use Rattle.tripssky.proofs.ReadWrite.{gsv-passes, lines-cut, list-back, read-on}
-use Rattle.tripssky.proofs.Took.{Took, place-to, took, took-next}
+use Rattle.tripssky.proofs.ReadWrite.{gsv-passes, lines-cut, list-back}
+use Rattle.tripssky.proofs.Took.{Took, answerFrom, place-to, read-on, took, took-next}
 
 module _ (t : Talker) (es : List Entry) where
   -- Where a line is still taken, the lines may not end.
@@ -44,7 +44,7 @@ module _ (t : Talker) (es : List Entry) where
       rw (ne-eqb (s .lines + 1) k (λ e. omega (arith, e, h, n)))
 
   half : (ls : List (List ℕ)) (l : List ℕ) (ms : List (List ℕ)) (q : Option Seen) (k : ℕ)
-      → readFrom refused rule ended q k (ls ++ (l ∷ ms)) ≡ whole t es → readFrom refused rule ended q k ls ≡ refused 6 (k + length ls) 0
+      → answerFrom q k (ls ++ (l ∷ ms)) ≡ whole t es → answerFrom q k ls ≡ refused 6 (k + length ls) 0
   unfolding readFrom
   half [] l ms q k e = too-soon q k l ms (took t es q k l ms e) ∙ ap (λ (n : ℕ). refused 6 n 0) (omega arith)
   half (a ∷ ls) l ms q k e =
@@ -53,7 +53,7 @@ module _ (t : Talker) (es : List Entry) where
       read-on q k a ls s (took-next t es q k a (ls ++ (l ∷ ms)) x) ∙ half ls l ms (some s) (k + 1) (x .rest) ∙ ap (λ (n : ℕ). refused 6 n 0) (omega arith)
 
   -- Each line of a whole group ends with its only LF, and so do the first of them.
-  all-end : (ls ms : List (List ℕ)) (q : Option Seen) (k : ℕ) → readFrom refused rule ended q k (ls ++ ms) ≡ whole t es → Endings ls
+  all-end : (ls ms : List (List ℕ)) (q : Option Seen) (k : ℕ) → answerFrom q k (ls ++ ms) ≡ whole t es → Endings ls
   all-end [] ms q k e = tt
   all-end (l ∷ ls) ms q k e =
       let x = took t es q k l (ls ++ ms) e in
@@ -65,8 +65,8 @@ pub half-refused : (g : List ℕ) (t : Talker) (es : List Entry) (ls : List (Lis
 unfolding groupOf readLines
 half-refused g t es [] l ms e c h = let z : ⊥ = omega arith in absurd z
 half-refused g t es (a ∷ ls) l ms e c h =
-    let f : readFrom refused rule ended none 1 ((a ∷ ls) ++ (l ∷ ms)) ≡ whole t es = ap (readFrom refused rule ended none 1) (sym c) ∙ e in
-    ap (readFrom refused rule ended none 1) (cut-back a ls (all-end t es (a ∷ ls) (l ∷ ms) none 1 f))
+    let f : answerFrom none 1 ((a ∷ ls) ++ (l ∷ ms)) ≡ whole t es = ap (answerFrom none 1) (sym c) ∙ e in
+    ap (answerFrom none 1) (cut-back a ls (all-end t es (a ∷ ls) (l ∷ ms) none 1 f))
     ∙ half t es (a ∷ ls) l ms none 1 f
     ∙ ap (λ (n : ℕ). refused 6 n 0) (omega arith)
 

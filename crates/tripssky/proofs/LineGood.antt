@@ -7,7 +7,7 @@ use mathlib.Core.List.{List, [], _∷_, _++_}
 use mathlib.Core.Bool.{true, false}
 use native.Mathlib.Omega.{arith}
 use lib.Dec.{lit≤}
-use lib.ListN.{length, getD, take, drop, replicate, length-drop}
+use lib.ListN.{length, take, drop, replicate, length-drop}
 use lib.Seq.{drop-append-le}
 use Rattle.records.specs.declared.Entry.{Entry}
 use Rattle.records.specs.declared.Gsv.{Gsv}
@@ -20,7 +20,7 @@ use Rattle.trips.proofs.Ranged.{in-outside}
 use Rattle.trips.proofs.Values.{inside}
 use Rattle.tripssat.proofs.Gsv.{Good, theEntry, blank-0, blank-1, blank-2, blank-3}
 use Rattle.tripssat.proofs.Lists.{all-four}
-use Rattle.writesat.specs.Gsv.{entryAfters, gsvWrong, isBlank, restBlank, used}
+use Rattle.writesat.specs.Gsv.{entryAfters, entryOf, gsvWrong, isBlank, restBlank, used}
 use Rattle.sky.specs.Group.{linesFor, entriesAt, usedOf}
 use Rattle.sky.specs.Sky.{tableOf}
 use Rattle.sky.specs.Table.{entryWrong, lineAt}
@@ -125,11 +125,13 @@ module _ (lines line satellites : ℕ) where
 
 -- The used entries of a record without a fault are in range, its places are these and blank ones, and it is of at most nine lines.
 module _ (v : Gsv) (places : length (v .entries) ≡ 4) (g : Good v) where
+  abbrev Told : List Entry → Type 0
+  Told l = Good (holding (v .lines) (v .line) (v .satellites) (v .count) l) → EachGood (take (v .count) l) × (l ≡ filled 4 (take (v .count) l))
+
   entries-of : EachGood (usedOf v) × (v .entries ≡ filled 4 (usedOf v))
   entries-of =
-      subst (λ (l : List Entry). Good (holding (v .lines) (v .line) (v .satellites) (v .count) l) → EachGood (take (v .count) l) × (l ≡ filled 4 (take (v .count) l)))
-      (all-four blankEntry (v .entries) places)
-      (good-of (v .lines) (v .line) (v .satellites) (getD (v .entries) 0 blankEntry) (getD (v .entries) 1 blankEntry) (getD (v .entries) 2 blankEntry) (getD (v .entries) 3 blankEntry) (v .count))
+      subst Told (all-four blankEntry (v .entries) places)
+      (good-of (v .lines) (v .line) (v .satellites) (entryOf v 0) (entryOf v 1) (entryOf v 2) (entryOf v 3) (v .count))
       g
 
   pub used-good : EachGood (usedOf v)

@@ -14,22 +14,24 @@ use borrow.Author.Tests.{eq-eqb, eqb-true, eqb-false, le-leb}
 use Rattle.line.specs.Line.{asLine, lineRefusal}
 use Rattle.address.specs.declared.Talker.{Talker}
 use Rattle.lines.specs.Cut.{cutLines, joined}
-use Rattle.lines.specs.Reader.{Step, next, onward, readFrom, readLines}
+use Rattle.lines.specs.Reader.{next, readFrom, readLines}
 use Rattle.lines.proofs.CutBack.{Ending, Endings, cut-back, passes-ending}
 use Rattle.reading.specs.Lines.{readLine}
 use Rattle.reading.proofs.Order as Order
 use Rattle.records.specs.declared.Entry.{Entry}
+use Rattle.records.specs.declared.Gsv.{Gsv}
 use Rattle.records.specs.declared.Reading.{Reading}
 use Rattle.records.specs.declared.Sentence.the-variants as S
-use Rattle.tripssat.proofs.Gsv as Gsv
+use Rattle.tripssat.proofs.Gsv as TGsv
 use Rattle.writesat.specs.Gsv.{gsvBody}
 use Rattle.sky.specs.declared.Table.{Table}
-use Rattle.sky.specs.Group.{whole, refused, Seen, linesFor, entriesAt, talkerNo, sameTalker, inPlace, follows, repeats, usedOf, entriesOf, gsvRule, ruled, rule, ended, groupOf}
+use Rattle.sky.specs.Group.{whole, Seen, linesFor, entriesAt, talkerNo, sameTalker, inPlace, follows, repeats, usedOf, entriesOf, gsvRule, ruled, rule, ended, groupOf}
 use Rattle.sky.specs.Sky.{tableOf}
 use Rattle.sky.specs.Table.{tableFault, lineAt, linesFrom, groupText}
 use Rattle.tripssky.proofs.InRange.{InRange, once-behind, once-front, used-in-range, of-used}
 use Rattle.tripssky.proofs.LineGood.{filled-many, theLine, line-is, line-used, line-good}
 use Rattle.tripssky.proofs.Numbers.{room, some-line}
+use Rattle.tripssky.proofs.Took.{answerFrom, read-on}
 
 -- A line that reads as a GSV sentence passed the line rule.
 pub gsv-passes : (l : List ℕ) (t : Talker) → readLine l .sentence ≡ S.Gsv t → lineRefusal l ≡ 0
@@ -46,54 +48,61 @@ same-talker : (t : Talker) → sameTalker t t ≡ true
 unfolding sameTalker
 same-talker t = eq-eqb (talkerNo t) (talkerNo t) refl
 
--- What a reader answers after a line that it took.
-pub read-on : (q : Option Seen) (k : ℕ) (l : List ℕ) (ls : List (List ℕ)) (s : Seen) → rule q k l ≡ next (some s)
-    → readFrom refused rule ended q k (l ∷ ls) ≡ readFrom refused rule ended (some s) (k + 1) ls
-unfolding readFrom
-read-on q k l ls s e = ap (λ (x : Step (Option Seen)). onward refused x k (λ (r : Option Seen). readFrom refused rule ended r (k + 1) ls)) e
-
 module _ (t : Talker) (es : List Entry) (s : InRange es) where
   abbrev last : ℕ
   last = linesFor (length es)
 
+  -- The entries before line k, and what was seen then.
   abbrev upTo : ℕ → List Entry
   upTo k = take (4 * (k - 1)) es
 
   abbrev seenBefore : ℕ → Seen
   seenBefore k = record { talker = t; lines = last; satellites = length es; entries = upTo k }
 
+  -- Line k as it is written, and so many lines from k on.
   abbrev written : ℕ → List ℕ
   written k = asLine (gsvBody t (lineAt (tableOf es) k))
 
-  module _ (k : ℕ) (from : 1 ≤ k) (to : k ≤ last) where
-    reads : readLine (written k) ≡ Gsv.theGsv t (theLine es k)
-    reads =
-        ap (λ r. readLine (asLine (gsvBody t r))) (line-is es (s .few) k from to)
-        ∙ Gsv.read-write t (theLine es k) (filled-many 4 (drop (4 * (k - 1)) es)) (line-good es (s .few) k from to (s .each))
+  abbrev linesOn : ℕ → ℕ → List (List ℕ)
+  linesOn k m = linesFrom t (tableOf es) k m
 
-    in-place : inPlace k (theLine es k) ≡ true
+  module _ (k : ℕ) (from : 1 ≤ k) (to : k ≤ last) where
+    abbrev line : Gsv
+    line = theLine es k
+
+    abbrev left : List Entry
+    left = drop (4 * (k - 1)) es
+
+    reads : readLine (written k) ≡ TGsv.theGsv t line
+    reads =
+        ap (λ (r : Gsv). readLine (asLine (gsvBody t r))) (line-is es (s .few) k from to)
+        ∙ TGsv.read-write t line (filled-many 4 left) (line-good es (s .few) k from to (s .each))
+
+    uses : usedOf line ≡ take 4 left
+    uses = line-used es (s .few) k from to
+
+    in-place : inPlace k line ≡ true
     unfolding inPlace
     in-place = rw (eq-eqb k k refl, le-leb k last to, eq-eqb (entriesAt (length es) k) _ refl)
 
     -- Four entries more, or those that are left, and no number among them that was there.
-    more : upTo k ++ usedOf (theLine es k) ≡ upTo (k + 1)
+    more : upTo k ++ usedOf line ≡ upTo (k + 1)
     more =
         let n : 4 * (k - 1) + 4 ≡ 4 * (k + 1 - 1) = omega arith in
-        ap (λ (l : List Entry). upTo k ++ l) (line-used es (s .few) k from to) ∙ sym (take-add (4 * (k - 1)) 4 es) ∙ ap (λ (m : ℕ). take m es) n
+        ap (λ (l : List Entry). upTo k ++ l) uses ∙ sym (take-add (4 * (k - 1)) 4 es) ∙ ap (λ (m : ℕ). take m es) n
 
-    fresh : repeats (upTo k) (usedOf (theLine es k)) ≡ false
+    fresh : repeats (upTo k) (usedOf line) ≡ false
     fresh =
-        let d = drop (4 * (k - 1)) es in
-        let a : repeats [] (upTo k ++ d) ≡ false = ap (repeats []) (take-append-drop (4 * (k - 1)) es) ∙ s .once in
-        let b : repeats (upTo k) (take 4 d ++ drop 4 d) ≡ false = ap (repeats (upTo k)) (take-append-drop 4 d) ∙ once-behind [] (upTo k) d a in
-        ap (repeats (upTo k)) (line-used es (s .few) k from to) ∙ once-front (upTo k) (take 4 d) (drop 4 d) b
+        let a : repeats [] (upTo k ++ left) ≡ false = ap (repeats []) (take-append-drop (4 * (k - 1)) es) ∙ s .once in
+        let b : repeats (upTo k) (take 4 left ++ drop 4 left) ≡ false = ap (repeats (upTo k)) (take-append-drop 4 left) ∙ once-behind [] (upTo k) left a in
+        ap (repeats (upTo k)) uses ∙ once-front (upTo k) (take 4 left) (drop 4 left) b
 
     -- So a reader that is before line k takes it.
-    taken : (q : Option Seen) → entriesOf q ≡ upTo k → follows q k t (theLine es k) ≡ true → rule q k (written k) ≡ next (some (seenBefore (k + 1)))
+    taken : (q : Option Seen) → entriesOf q ≡ upTo k → follows q k t line ≡ true → rule q k (written k) ≡ next (some (seenBefore (k + 1)))
     unfolding rule gsvRule
     taken q p f =
-        let g : repeats (entriesOf q) (usedOf (theLine es k)) ≡ false = ap (λ (l : List Entry). repeats l (usedOf (theLine es k))) p ∙ fresh in
-        let a : entriesOf q ++ usedOf (theLine es k) ≡ upTo (k + 1) = ap (λ (l : List Entry). l ++ usedOf (theLine es k)) p ∙ more in
+        let g : repeats (entriesOf q) (usedOf line) ≡ false = ap (λ (l : List Entry). repeats l (usedOf line)) p ∙ fresh in
+        let a : entriesOf q ++ usedOf line ≡ upTo (k + 1) = ap (λ (l : List Entry). l ++ usedOf line) p ∙ more in
         ap (λ (r : Reading). ruled q k (r .sentence) (r .gsv)) reads
         ∙ rw (f, g) (ap (λ (l : List Entry). next (some (record { talker = t; lines = last; satellites = length es; entries = l }))) a)
 
@@ -109,43 +118,42 @@ module _ (t : Talker) (es : List Entry) (s : InRange es) where
   unfolding follows
   later k from to = rw (same-talker t, eq-eqb last last refl, eq-eqb (length es) (length es) refl) (in-place k from to)
 
+  -- Behind the last line all entries were seen.
   over : (k : ℕ) → k ≡ last + 1 → ended (some (seenBefore k)) k ≡ whole t es
   unfolding ended
   over k e = rw (eq-eqb (last + 1) k (sym e)) (ap (whole t) (take-all (4 * (k - 1)) es (omega (arith, room (length es), e))))
 
-  run : (m k : ℕ) → 1 ≤ k → k + m ≡ last + 1 → readFrom refused rule ended (some (seenBefore k)) k (linesFrom t (tableOf es) k m) ≡ whole t es
+  run : (m k : ℕ) → 1 ≤ k → k + m ≡ last + 1 → answerFrom (some (seenBefore k)) k (linesOn k m) ≡ whole t es
   unfolding readFrom
   run zero k from e = over k (omega arith)
   run (suc m) k from e =
+      let q = some (seenBefore k) in
       let to : k ≤ last = omega arith in
-      read-on (some (seenBefore k)) k (written k) (linesFrom t (tableOf es) (k + 1) m) (seenBefore (k + 1)) (taken k from to (some (seenBefore k)) refl (later k from to))
-      ∙ run m (k + 1) (omega arith) (omega arith)
+      read-on q k (written k) (linesOn (k + 1) m) (seenBefore (k + 1)) (taken k from to q refl (later k from to)) ∙ run m (k + 1) (omega arith) (omega arith)
 
-  all-end : (m k : ℕ) → 1 ≤ k → k + m ≤ last + 1 → Endings (linesFrom t (tableOf es) k m)
+  all-end : (m k : ℕ) → 1 ≤ k → k + m ≤ last + 1 → Endings (linesOn k m)
   all-end zero k from to = tt
   all-end (suc m) k from to = (ends k from (omega arith), all-end m (k + 1) (omega arith) (omega arith))
 
-  -- All its lines, from the first on.
-  abbrev theLines : List (List ℕ)
-  theLines = written 1 ∷ linesFrom t (tableOf es) 2 (last - 1)
+  -- There is a first line, and the others are behind it.
+  one-first : linesOn 1 last ≡ written 1 ∷ linesOn 2 (last - 1)
+  one-first = let n : last ≡ suc (last - 1) = omega (arith, some-line (length es)) in ap (linesOn 1) n
 
-  lines-are : linesFrom t (tableOf es) 1 last ≡ theLines
-  lines-are = let n : last ≡ suc (last - 1) = omega (arith, some-line (length es)) in ap (linesFrom t (tableOf es) 1) n
-
-  pub lines-cut : cutLines (groupText t (tableOf es)) ≡ linesFrom t (tableOf es) 1 last
+  -- What is written of the entries is cut as the lines that were written, and read back as the entries.
+  pub lines-cut : cutLines (groupText t (tableOf es)) ≡ linesOn 1 last
   unfolding groupText
   lines-cut =
       let p = some-line (length es) in
-      ap (λ (ls : List (List ℕ)). cutLines (joined ls)) lines-are
-      ∙ cut-back (written 1) (linesFrom t (tableOf es) 2 (last - 1)) (ends 1 (lit≤ tt) p, all-end (last - 1) 2 (lit≤ tt) (omega (arith, p)))
-      ∙ sym lines-are
+      ap (λ (ls : List (List ℕ)). cutLines (joined ls)) one-first
+      ∙ cut-back (written 1) (linesOn 2 (last - 1)) (ends 1 (lit≤ tt) p, all-end (last - 1) 2 (lit≤ tt) (omega (arith, p)))
+      ∙ sym one-first
 
   pub list-back : groupOf (groupText t (tableOf es)) ≡ whole t es
   unfolding groupOf readLines
   list-back =
       let p = some-line (length es) in
-      ap (readFrom refused rule ended none 1) (lines-cut ∙ lines-are)
-      ∙ read-on none 1 (written 1) (linesFrom t (tableOf es) 2 (last - 1)) (seenBefore 2) (taken 1 (lit≤ tt) p none refl first)
+      ap (answerFrom none 1) (lines-cut ∙ one-first)
+      ∙ read-on none 1 (written 1) (linesOn 2 (last - 1)) (seenBefore 2) (taken 1 (lit≤ tt) p none refl first)
       ∙ run (last - 1) 2 (lit≤ tt) (omega (arith, p))
 
 -- A table in range is read back as the same table from what was written.

@@ -13,13 +13,21 @@ use Rattle.digits.proofs.Bools.{and-left, and-right}
 use Rattle.address.specs.declared.Talker.{Talker}
 use Rattle.address.specs.declared.Talker.the-variants.{Gp, Gl, Ga, Gq, Gn}
 use Rattle.forms.specs.Got.{pick}
-use Rattle.lines.specs.Reader.{next, stop, onward, readFrom}
+use Rattle.lines.specs.Reader.{Step, next, stop, onward, readFrom}
 use Rattle.reading.specs.Lines.{readLine}
 use Rattle.records.specs.declared.Entry.{Entry}
 use Rattle.records.specs.declared.Gsv.{Gsv}
 use Rattle.records.specs.declared.Sentence.{Sentence}
 use Rattle.records.specs.declared.Sentence.the-variants as S
-use Rattle.sky.specs.Group.{whole, refused, Seen, linesFor, entriesAt, talkerNo, sameTalker, inPlace, follows, repeats, usedOf, entriesOf, seen, gsvRule, ruled, rule, ended}
+use Rattle.sky.specs.Group.{Answer, whole, refused, Seen, linesFor, entriesAt, talkerNo, sameTalker, inPlace, follows, repeats, usedOf, entriesOf, seen, gsvRule, ruled, rule, ended}
+
+-- What the group's reader answers from a state and line k on; and that it goes on behind a line that it took.
+abbrev pub answerFrom : Option Seen → ℕ → List (List ℕ) → Answer
+answerFrom q k ls = readFrom refused rule ended q k ls
+
+pub read-on : (q : Option Seen) (k : ℕ) (l : List ℕ) (ls : List (List ℕ)) (s : Seen) → rule q k l ≡ next (some s) → answerFrom q k (l ∷ ls) ≡ answerFrom (some s) (k + 1) ls
+unfolding readFrom
+read-on q k l ls s e = ap (λ (x : Step (Option Seen)). onward refused x k (λ (r : Option Seen). answerFrom r (k + 1) ls)) e
 
 pub no-whole : (n k f : ℕ) (t : Talker) (es : List Entry) → refused n k f ≡ whole t es → ⊥
 no-whole n k f t es e = let z : _≡_ {A = ℕ} 0 1 = cc in omega arith
@@ -29,27 +37,30 @@ pub record Took (t : Talker) (es : List Entry) (q : Option Seen) (k : ℕ) (l : 
   pub reads : readLine l .sentence ≡ S.Gsv talker
   pub right : follows q k talker (readLine l .gsv) ≡ true
   pub fresh : repeats (entriesOf q) (usedOf (readLine l .gsv)) ≡ false
-  pub rest : readFrom refused rule ended (some (seen q talker (readLine l .gsv))) (k + 1) ls ≡ whole t es
+  pub rest : answerFrom (some (seen q talker (readLine l .gsv))) (k + 1) ls ≡ whole t es
 
 module _ (t : Talker) (es : List Entry) (q : Option Seen) (k : ℕ) (l : List ℕ) (ls : List (List ℕ)) where
-  took-gsv : (u : Talker) → readLine l .sentence ≡ S.Gsv u
-      → onward refused (gsvRule q k u (readLine l .gsv)) k (λ (r : Option Seen). readFrom refused rule ended r (k + 1) ls) ≡ whole t es → Took t es q k l ls
+  abbrev v : Gsv
+  v = readLine l .gsv
+
+  -- The answer after a step is whole.
+  abbrev Leads : Step (Option Seen) → Type 0
+  Leads x = onward refused x k (λ (r : Option Seen). answerFrom r (k + 1) ls) ≡ whole t es
+
+  took-gsv : (u : Talker) → readLine l .sentence ≡ S.Gsv u → Leads (gsvRule q k u v) → Took t es q k l ls
   unfolding gsvRule
-  took-gsv u p = go (follows q k u (readLine l .gsv)) (repeats (entriesOf q) (usedOf (readLine l .gsv))) refl refl
+  took-gsv u p = go (follows q k u v) (repeats (entriesOf q) (usedOf v)) refl refl
     where
-      go : (a b : Bool) → follows q k u (readLine l .gsv) ≡ a → repeats (entriesOf q) (usedOf (readLine l .gsv)) ≡ b
-          → onward refused (pick a (pick b (stop 7 0) (next (some (seen q u (readLine l .gsv))))) (stop 6 0)) k (λ (r : Option Seen). readFrom refused rule ended r (k + 1) ls) ≡ whole t es
-          → Took t es q k l ls
+      go : (a b : Bool) → follows q k u v ≡ a → repeats (entriesOf q) (usedOf v) ≡ b → Leads (pick a (pick b (stop 7 0) (next (some (seen q u v)))) (stop 6 0)) → Took t es q k l ls
       go true true f g i = absurd (no-whole 7 k 0 t es i)
       go true false f g i = record { talker = u; reads = p; right = f; fresh = g; rest = i }
       go false b f g i = absurd (no-whole 6 k 0 t es i)
 
-  pub took : readFrom refused rule ended q k (l ∷ ls) ≡ whole t es → Took t es q k l ls
+  pub took : answerFrom q k (l ∷ ls) ≡ whole t es → Took t es q k l ls
   unfolding readFrom rule
   took = go (readLine l .sentence) refl
     where
-      go : (x : Sentence) → readLine l .sentence ≡ x
-          → onward refused (ruled q k x (readLine l .gsv)) k (λ (r : Option Seen). readFrom refused rule ended r (k + 1) ls) ≡ whole t es → Took t es q k l ls
+      go : (x : Sentence) → readLine l .sentence ≡ x → Leads (ruled q k x v) → Took t es q k l ls
       go (S.Gsv u) p i = took-gsv u p i
       go (S.Refused n f) p i = absurd (no-whole n k f t es i)
       go (S.Gga u r) p i = absurd (no-whole 6 k 0 t es i)
@@ -68,9 +79,9 @@ module _ (t : Talker) (es : List Entry) (q : Option Seen) (k : ℕ) (l : List �
       go (S.Ea r) p i = absurd (no-whole 6 k 0 t es i)
 
   -- And so the reader goes on.
-  pub took-next : (x : Took t es q k l ls) → rule q k l ≡ next (some (seen q (x .talker) (readLine l .gsv)))
+  pub took-next : (x : Took t es q k l ls) → rule q k l ≡ next (some (seen q (x .talker) v))
   unfolding rule gsvRule
-  took-next x = ap (λ (y : Sentence). ruled q k y (readLine l .gsv)) (x .reads) ∙ rw (x .right, x .fresh)
+  took-next x = ap (λ (y : Sentence). ruled q k y v) (x .reads) ∙ rw (x .right, x .fresh)
 
 -- Talkers with one number are one.
 abbrev ofNo : ℕ → Talker
@@ -108,7 +119,7 @@ seenSo u n before = some (record { talker = u; lines = linesFor n; satellites = 
 -- A line that was taken, and the answer of the lines behind it.
 pub record Next (t : Talker) (es : List Entry) (u : Talker) (n k : ℕ) (before : List Entry) (l : List ℕ) (ls : List (List ℕ)) : Type 0 where
   pub taken : Line u n k before l
-  pub rest : readFrom refused rule ended (seenSo u n (before ++ usedOf (readLine l .gsv))) (k + 1) ls ≡ whole t es
+  pub rest : answerFrom (seenSo u n (before ++ usedOf (readLine l .gsv))) (k + 1) ls ≡ whole t es
 
 module _ (k : ℕ) (v : Gsv) (h : inPlace k v ≡ true) where
   place-line : v .line ≡ k
@@ -124,55 +135,47 @@ module _ (k : ℕ) (v : Gsv) (h : inPlace k v ≡ true) where
   place-count = eqb-true (v .count) _ (and-right (leb k (v .lines)) _ (and-right (eqb (v .line) k) _ h))
 
 module _ (t : Talker) (es : List Entry) (l : List ℕ) (ls : List (List ℕ)) where
-  abbrev v : Gsv
-  v = readLine l .gsv
+  abbrev line : Gsv
+  line = readLine l .gsv
 
-  -- The state behind a line of n satellites that announces as many lines as they take.
-  so : (u : Talker) (n k : ℕ) (before : List Entry) → v .lines ≡ linesFor n → v .satellites ≡ n
-      → readFrom refused rule ended (some (record { talker = u; lines = v .lines; satellites = v .satellites; entries = before })) k ls ≡ whole t es
-      → readFrom refused rule ended (seenSo u n before) k ls ≡ whole t es
-  so u n k before p q e = rw (p, q) at e
+  -- What was seen by what the line itself says.
+  abbrev said : Talker → List Entry → Option Seen
+  said u before = some (record { talker = u; lines = line .lines; satellites = line .satellites; entries = before })
 
-  pub first-line : readFrom refused rule ended none 1 (l ∷ ls) ≡ whole t es → (u : Talker) × Next t es u (v .satellites) 1 [] l ls
+  made : (u : Talker) (n k : ℕ) (before : List Entry) → readLine l .sentence ≡ S.Gsv u → line .lines ≡ linesFor n → line .satellites ≡ n → inPlace k line ≡ true
+      → repeats before (usedOf line) ≡ false → answerFrom (said u (before ++ usedOf line)) (k + 1) ls ≡ whole t es → Next t es u n k before l ls
+  made u n k before r a b h f e =
+      record {
+        taken = record {
+          reads = r;
+          lines = a;
+          line = place-line k line h;
+          satellites = b;
+          count = place-count k line h ∙ ap (λ (m : ℕ). entriesAt m k) b;
+          no-later = subst (λ (m : ℕ). k ≤ m) a (place-to k line h);
+          fresh = f;
+        };
+        rest = rw (a, b) at e;
+      }
+
+  pub first-line : answerFrom none 1 (l ∷ ls) ≡ whole t es → (u : Talker) × Next t es u (line .satellites) 1 [] l ls
   unfolding follows
   first-line e =
       let x = took t es none 1 l ls e in
-      let a = eqb-true (v .lines) (linesFor (v .satellites)) (and-left _ _ (x .right)) in
-      let h = and-right (eqb (v .lines) (linesFor (v .satellites))) _ (x .right) in (
-        x .talker,
-        record {
-          taken = record { reads = x .reads; lines = a; line = place-line 1 v h; satellites = refl; count = place-count 1 v h; no-later = subst (λ (m : ℕ). 1 ≤ m) a (place-to 1 v h); fresh = x .fresh };
-          rest = so (x .talker) (v .satellites) 2 (usedOf v) a refl (x .rest);
-        },
-      )
+      let a = eqb-true (line .lines) (linesFor (line .satellites)) (and-left _ _ (x .right)) in
+      let h = and-right (eqb (line .lines) (linesFor (line .satellites))) _ (x .right) in
+      (x .talker, made (x .talker) (line .satellites) 1 [] (x .reads) a refl h (x .fresh) (x .rest))
 
-  module _ (u : Talker) (n k : ℕ) (before : List Entry) (e : readFrom refused rule ended (seenSo u n before) k (l ∷ ls) ≡ whole t es) where
-    x : Took t es (seenSo u n before) k l ls
-    x = took t es (seenSo u n before) k l ls e
-
-    later : (u ≡ x .talker) × (linesFor n ≡ v .lines) × (n ≡ v .satellites) × (inPlace k v ≡ true)
-    unfolding follows
-    later =
-        let f = x .right in
-        let g = and-right (sameTalker u (x .talker)) _ f in
-        let h = and-right (eqb (linesFor n) (v .lines)) _ g in
-        (talkers-same u (x .talker) (and-left _ _ f), eqb-true (linesFor n) (v .lines) (and-left _ _ g), eqb-true n (v .satellites) (and-left _ _ h), and-right (eqb n (v .satellites)) _ h)
-
-    pub next-line : Next t es u n k before l ls
-    next-line =
-        let a = sym (later .1) in
-        let b = sym (later .2) in
-        let h = later .3 in
-        record {
-          taken = record {
-            reads = x .reads ∙ ap S.Gsv (sym (later .0));
-            lines = a;
-            line = place-line k v h;
-            satellites = b;
-            count = place-count k v h ∙ ap (λ (m : ℕ). entriesAt m k) b;
-            no-later = subst (λ (m : ℕ). k ≤ m) a (place-to k v h);
-            fresh = x .fresh;
-          };
-          rest = so u n (k + 1) (before ++ usedOf v) a b
-              (subst (λ (w : Talker). readFrom refused rule ended (some (record { talker = w; lines = v .lines; satellites = v .satellites; entries = before ++ usedOf v })) (k + 1) ls ≡ whole t es) (sym (later .0)) (x .rest));
-        }
+  pub next-line : (u : Talker) (n k : ℕ) (before : List Entry) → answerFrom (seenSo u n before) k (l ∷ ls) ≡ whole t es → Next t es u n k before l ls
+  unfolding follows
+  next-line u n k before e =
+      let x = took t es (seenSo u n before) k l ls e in
+      let f = and-right (sameTalker u (x .talker)) _ (x .right) in
+      let g = and-right (eqb (linesFor n) (line .lines)) _ f in
+      let w = sym (talkers-same u (x .talker) (and-left _ _ (x .right))) in
+      made u n k before (x .reads ∙ ap S.Gsv w)
+      (sym (eqb-true (linesFor n) (line .lines) (and-left _ _ f)))
+      (sym (eqb-true n (line .satellites) (and-left _ _ g)))
+      (and-right (eqb n (line .satellites)) _ g)
+      (x .fresh)
+      (subst (λ (y : Talker). answerFrom (said y (before ++ usedOf line)) (k + 1) ls ≡ whole t es) w (x .rest))

@@ -23,13 +23,13 @@ use Rattle.records.specs.declared.Gsv.{Gsv}
 use Rattle.tripssat.proofs.Gsv.{Good}
 use Rattle.tripssat.proofs.GsvSame as GsvSame
 use Rattle.writesat.specs.Gsv.{gsvBody}
-use Rattle.sky.specs.Group.{whole, refused, linesFor, entriesAt, repeats, usedOf, rule, ended, groupOf}
+use Rattle.sky.specs.Group.{whole, refused, linesFor, entriesAt, repeats, usedOf, ended, groupOf}
 use Rattle.sky.specs.Sky.{tableOf}
 use Rattle.sky.specs.Table.{tableFault, lineAt, linesFrom, groupText}
 use Rattle.tripssky.proofs.InRange.{EachGood, InRange, good-append, once-append, table-good}
 use Rattle.tripssky.proofs.LineGood.{filled, filled-more, used-good, used-places, at-most-nine, line-is}
 use Rattle.tripssky.proofs.Numbers.{entries-at, few-satellites, room, so-many, starts}
-use Rattle.tripssky.proofs.Took.{Line, no-whole, seenSo, first-line, next-line}
+use Rattle.tripssky.proofs.Took.{Line, answerFrom, no-whole, seenSo, first-line, next-line}
 
 -- What holds of the entries that were seen before line k of n satellites: the first four times k - 1, or all.
 record Held (n k : ℕ) (before : List Entry) : Type 0 where
@@ -138,7 +138,7 @@ module _ (t : Talker) (es : List Entry) (u : Talker) (n : ℕ) where
       many : length before ≡ n
       many = omega (arith, h .many, room n, p)
 
-  walk : (ls : List (List ℕ)) (k : ℕ) (before : List Entry) → Held n k before → readFrom refused rule ended (seenSo u n before) k ls ≡ whole t es
+  walk : (ls : List (List ℕ)) (k : ℕ) (before : List Entry) → Held n k before → answerFrom (seenSo u n before) k ls ≡ whole t es
       → (u ≡ t) × Ends u es n k before ls
   unfolding readFrom
   walk [] k before h e = let x = over k before e in (x .1, at-end k before h (x .0) (x .2))
@@ -157,7 +157,7 @@ held-none t n l line =
 
 -- All lines of a whole group.
 module _ (t : Talker) (es : List Entry) where
-  all-lines : (ls : List (List ℕ)) → readFrom refused rule ended none 1 ls ≡ whole t es → InRange es × (linesFrom t (tableOf es) 1 (linesFor (length es)) ≡ ls)
+  all-lines : (ls : List (List ℕ)) → answerFrom none 1 ls ≡ whole t es → InRange es × (linesFrom t (tableOf es) 1 (linesFor (length es)) ≡ ls)
   unfolding readFrom ended
   all-lines [] e = absurd (no-whole 6 1 0 t es e)
   all-lines (l ∷ ls) e =
@@ -173,6 +173,7 @@ module _ (t : Talker) (es : List Entry) where
         ap (linesFrom t (tableOf es) 1) m ∙ ap (λ (w : Talker). linesFrom w (tableOf es) 1 (length (l ∷ ls))) (sym (y .0)) ∙ z .lines,
       )
 
+-- What a whole answer says: the entries are in range, and the lines are those that the writer makes of them.
 pub told : (g : List ℕ) (t : Talker) (es : List Entry) → groupOf g ≡ whole t es → InRange es × (linesFrom t (tableOf es) 1 (linesFor (length es)) ≡ cutLines g)
 unfolding groupOf readLines
 told g t es e = all-lines t es (cutLines g) e
