@@ -32,6 +32,7 @@ read-on q k l ls s e = ap (λ (x : Step (Option Seen)). onward refused x k (λ (
 pub no-whole : (n k f : ℕ) (t : Talker) (es : List Entry) → refused n k f ≡ whole t es → ⊥
 no-whole n k f t es e = let z : _≡_ {A = ℕ} 0 1 = cc in omega arith
 
+-- A line that was taken on the way to a whole answer.
 pub record Took (t : Talker) (es : List Entry) (q : Option Seen) (k : ℕ) (l : List ℕ) (ls : List (List ℕ)) : Type 0 where
   pub talker : Talker
   pub reads : readLine l .sentence ≡ S.Gsv talker
