@@ -17,7 +17,7 @@ use Rattle.records.specs.declared.Reading.{Reading}
 use Rattle.reading.proofs.Order as Order
 use Rattle.sky.specs.Group.{Answer, whole, refused, Seen, ruled, rule, ended, groupOf}
 
-line-first : (q : Option Seen) (k : ℕ) (l : List ℕ) → (lineRefusal l ≡ 0 → ⊥) → rule q k l ≡ stop (lineRefusal l) 0
+pub line-first : (q : Option Seen) (k : ℕ) (l : List ℕ) → (lineRefusal l ≡ 0 → ⊥) → rule q k l ≡ stop (lineRefusal l) 0
 unfolding rule
 line-first q k l h = ap (λ (r : Reading). ruled q k (r .sentence) (r .gsv)) (Order.refused l h)
 

@@ -1,18 +1,15 @@
 -- Marks of satellite numbers: no entry has none, and one more mark is one more entry. A line of up to four entries is four such steps.
-use Prim.Native.Nat.{ℕ, zero, suc, _≤_, _<_}
+use Prim.Native.Nat.{ℕ, _<_}
 use mathlib.Core.Path.{_≡_, refl, sym, _∙_, ap, subst}
-use mathlib.Core.List.{List, [], _∷_, _++_, append-assoc, append-nil}
+use mathlib.Core.List.{List, [], _∷_, _++_, append-nil}
 use mathlib.Core.Bool.{Bool, true, false, _&&_, _||_, cond, true≢false}
 use native.Mathlib.Omega.{arith}
-use lib.Dec.{eqb, ltb}
-use lib.ListN.{length, getD, set, take, replicate, length-set, getD-replicate}
+use lib.Dec.{eqb}
+use lib.ListN.{length, getD, set, replicate, length-set, getD-replicate}
 use lib.Seq.{getD-set-same, getD-set-other}
 use borrow.Author.Tests.{eqb-true, eq-eqb, ne-eqb}
-use Rattle.forms.specs.Got.{pick}
 use Rattle.records.specs.declared.Entry.{Entry}
-use Rattle.records.specs.declared.Gsv.{Gsv}
-use Rattle.records.specs.Blank.{blankEntry}
-use Rattle.sky.specs.Group.{numbered, repeats, usedOf}
+use Rattle.sky.specs.Group.{numbered}
 use Rattle.sky.specs.Marks.{Marks, HasMark, hadIf, markedIf}
 
 pub marks-none : Marks [] (replicate 100 0)

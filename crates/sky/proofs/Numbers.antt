@@ -1,11 +1,9 @@
 -- How many lines and entries so many satellites take, in numbers: a line before the last is full, and all lines together have each satellite.
-use Prim.Native.Nat.{ℕ, zero, suc, _+_, _-_, _*_, _/_, _≤_, _<_}
-use mathlib.Core.Path.{_≡_, sym}
-use mathlib.Core.Bool.{Bool, true, false, cond}
+use Prim.Native.Nat.{ℕ, _-_, _*_, _≤_, _<_}
+use mathlib.Core.Path.{_≡_}
 use native.Mathlib.Omega.{arith}
-use lib.Dec.{eqb, ltb}
-use borrow.Author.Tests.{le-ltb, lt-ltb, ltb-true, ltb-false}
-use Rattle.sky.specs.Group.{linesFor, entriesAt}
+use borrow.Author.Tests.{le-ltb, lt-ltb}
+use Rattle.sky.specs.Group.{entriesAt}
 
 module _ (n k : ℕ) where
   pub at-none : n ≤ 4 * (k - 1) → 0 ≡ entriesAt n k

@@ -63,7 +63,7 @@ good-is r e = go (ltb 4 (r .count)) (eqb (gsvWrong r) 0) (restBlank r) refl refl
     go false true true p q s i = record { few = ltb-false 4 (r .count) p; values = eqb-true (gsvWrong r) 0 q; blank = s }
 
 -- A used entry is read back; four good values make it.
-abbrev pub theEntry : Entry → GotEntry
+abbrev theEntry : Entry → GotEntry
 theEntry e = record { wrong = 0; entry = e }
 
 entry-made : (e : Entry)
@@ -99,7 +99,7 @@ missing-is m e = go (m .there) refl
     go true q = absurd (true-false (and-left (not (m .there)) (eqb (m .value) 0) e) (ap not q))
     go false q = ap (λ (t : Bool). record { there = t; value = m .value }) q ∙ ap (λ (x : ℕ). record { there = false; value = x }) v
 
-pub blank-is : (e : Entry) → isBlank e ≡ true → theEntry blankEntry ≡ theEntry e
+pub blank-is : (e : Entry) → isBlank e ≡ true → e ≡ blankEntry
 unfolding isBlank
 blank-is e b =
     let n = eqb-true (e .number) 0 (and-left _ _ b) in
@@ -108,11 +108,14 @@ blank-is e b =
     let x = missing-is (e .elevation) (and-left _ _ b1) in
     let y = missing-is (e .azimuth) (and-left _ _ b2) in
     let w = missing-is (e .signal) (and-right (isMissing (e .azimuth)) _ b2) in
-    ap theEntry (made (e .number) (e .elevation) (e .azimuth) (e .signal) n x y w)
+    sym (made (e .number) (e .elevation) (e .azimuth) (e .signal) n x y w)
   where
     made : (n : ℕ) (a b c : Maybe) → n ≡ 0 → a ≡ record { there = false; value = 0 } → b ≡ record { there = false; value = 0 } → c ≡ record { there = false; value = 0 }
         → blankEntry ≡ record { number = n; elevation = a; azimuth = b; signal = c }
     made n a b c p q s u = rw (p, q, s, u)
+
+blank-got : (e : Entry) → isBlank e ≡ true → theEntry blankEntry ≡ theEntry e
+blank-got e b = ap theEntry (sym (blank-is e b))
 
 -- Each unused place is blank.
 module _ (r : Gsv) (b : restBlank r ≡ true) where
@@ -127,18 +130,18 @@ module _ (r : Gsv) (b : restBlank r ≡ true) where
   rest-two : (used r 2 || isBlank (entryOf r 2)) && (used r 3 || isBlank (entryOf r 3)) ≡ true
   rest-two = and-right (used r 1 || isBlank (entryOf r 1)) _ rest-one
 
-  pub blank-0 : used r 0 ≡ false → theEntry blankEntry ≡ theEntry (entryOf r 0)
+  blank-0 : used r 0 ≡ false → theEntry blankEntry ≡ theEntry (entryOf r 0)
   unfolding restBlank
-  blank-0 f = blank-is (entryOf r 0) (unused (used r 0) (isBlank (entryOf r 0)) (and-left _ _ b) f)
+  blank-0 f = blank-got (entryOf r 0) (unused (used r 0) (isBlank (entryOf r 0)) (and-left _ _ b) f)
 
-  pub blank-1 : used r 1 ≡ false → theEntry blankEntry ≡ theEntry (entryOf r 1)
-  blank-1 f = blank-is (entryOf r 1) (unused (used r 1) (isBlank (entryOf r 1)) (and-left _ _ rest-one) f)
+  blank-1 : used r 1 ≡ false → theEntry blankEntry ≡ theEntry (entryOf r 1)
+  blank-1 f = blank-got (entryOf r 1) (unused (used r 1) (isBlank (entryOf r 1)) (and-left _ _ rest-one) f)
 
-  pub blank-2 : used r 2 ≡ false → theEntry blankEntry ≡ theEntry (entryOf r 2)
-  blank-2 f = blank-is (entryOf r 2) (unused (used r 2) (isBlank (entryOf r 2)) (and-left _ _ rest-two) f)
+  blank-2 : used r 2 ≡ false → theEntry blankEntry ≡ theEntry (entryOf r 2)
+  blank-2 f = blank-got (entryOf r 2) (unused (used r 2) (isBlank (entryOf r 2)) (and-left _ _ rest-two) f)
 
-  pub blank-3 : used r 3 ≡ false → theEntry blankEntry ≡ theEntry (entryOf r 3)
-  blank-3 f = blank-is (entryOf r 3) (unused (used r 3) (isBlank (entryOf r 3)) (and-right (used r 2 || isBlank (entryOf r 2)) _ rest-two) f)
+  blank-3 : used r 3 ≡ false → theEntry blankEntry ≡ theEntry (entryOf r 3)
+  blank-3 f = blank-got (entryOf r 3) (unused (used r 3) (isBlank (entryOf r 3)) (and-right (used r 2 || isBlank (entryOf r 2)) _ rest-two) f)
 
 -- The fields of an entry, used or not.
 entry-clean : (u : Bool) (e : Entry) → CleanAll (entryFields u e)

@@ -12,7 +12,6 @@ use borrow.Author.Tests.{eqb-true, eqb-false, ltb-false, le-ltb}
 use Rattle.digits.proofs.Bools.{and-left, and-right}
 use Rattle.records.specs.declared.Entry.{Entry}
 use Rattle.records.specs.Blank.{blankEntry}
-use Rattle.satellites.specs.declared.gsv.GotEntry.{GotEntry}
 use Rattle.sealing.specs.declared.Written.{Written}
 use Rattle.sealing.specs.Written.{pick, refused, wrote}
 use Rattle.tripssat.proofs.Gsv.{blank-is}
@@ -120,7 +119,7 @@ blank-all : (l : List Entry) → allBlank l ≡ true → l ≡ replicate (length
 unfolding allBlank
 blank-all [] b = refl
 blank-all (e ∷ l) b =
-    ap₂ (λ (x : Entry) (y : List Entry). x ∷ y) (sym (ap (λ (g : GotEntry). g .entry) (blank-is e (and-left _ _ b)))) (blank-all l (and-right (isBlank e) _ b))
+    ap₂ (λ (x : Entry) (y : List Entry). x ∷ y) (blank-is e (and-left _ _ b)) (blank-all l (and-right (isBlank e) _ b))
 
 all-blank : (n : ℕ) → allBlank (replicate n blankEntry) ≡ true
 unfolding allBlank isBlank

@@ -4,23 +4,23 @@
 use Prim.Native.Nat.{ℕ, zero, suc, _+_, _-_, _*_, _≤_}
 use mathlib.Core.Path.{_≡_, refl, sym, _∙_, ap, subst}
 use mathlib.Core.List.{List, [], _∷_, _++_}
-use mathlib.Core.Bool.{true, false}
+use mathlib.Core.Bool.{true, _&&_}
 use native.Mathlib.Omega.{arith}
 use lib.Dec.{lit≤}
 use lib.ListN.{length, take, drop, replicate, length-drop}
 use lib.Seq.{drop-append-le}
+use Rattle.digits.proofs.Bools.{and-left, and-right}
 use Rattle.records.specs.declared.Entry.{Entry}
 use Rattle.records.specs.declared.Gsv.{Gsv}
 use Rattle.records.specs.Blank.{blankEntry}
 use Rattle.records.specs.Wrong.{After}
 use Rattle.ranges.specs.Ranges.{outside}
-use Rattle.satellites.specs.declared.gsv.GotEntry.{GotEntry}
 use Rattle.trips.proofs.Known.{Zero, all-zero, zero-all}
 use Rattle.trips.proofs.Ranged.{in-outside}
 use Rattle.trips.proofs.Values.{inside}
-use Rattle.tripssat.proofs.Gsv.{Good, theEntry, blank-0, blank-1, blank-2, blank-3}
+use Rattle.tripssat.proofs.Gsv.{Good, blank-is}
 use Rattle.tripssat.proofs.Lists.{all-four}
-use Rattle.writesat.specs.Gsv.{entryAfters, entryOf, gsvWrong, isBlank, restBlank, used}
+use Rattle.writesat.specs.Gsv.{entryAfters, entryOf, gsvWrong, isBlank, restBlank}
 use Rattle.sky.specs.Group.{linesFor, entriesAt, usedOf}
 use Rattle.sky.specs.Sky.{tableOf}
 use Rattle.sky.specs.Table.{entryWrong, lineAt}
@@ -90,36 +90,25 @@ module _ (lines line satellites : ℕ) where
         let first : EachGood (e0 ∷ e1 ∷ e2 ∷ e3 ∷ []) = (g .0, (g .1 .0, (g .1 .1 .0, (g .1 .1 .1 .0, tt)))) in
         record { few = lit≤ tt; values = zero-all _ (a, (b, (c, all-in 3 (e0 ∷ e1 ∷ e2 ∷ e3 ∷ []) first))); blank = refl }
 
-  -- And back.
-  blank-entry : (e : Entry) → theEntry blankEntry ≡ theEntry e → e ≡ blankEntry
-  blank-entry e q = sym (ap (λ (g : GotEntry). g .entry) q)
-
+  -- And back: the values of the used places are in range, and a place that is not used is blank.
   module _ (e0 e1 e2 e3 : Entry) where
     abbrev four : List Entry
     four = e0 ∷ e1 ∷ e2 ∷ e3 ∷ []
 
-    module _ (n : ℕ) (b : restBlank (holding n four) ≡ true) where
-      fill-0 : used (holding n four) 0 ≡ false → e0 ≡ blankEntry
-      fill-0 f = blank-entry e0 (blank-0 (holding n four) b f)
+    last-two : isBlank e2 && isBlank e3 ≡ true → (e2 ≡ blankEntry) × (e3 ≡ blankEntry)
+    last-two b = (blank-is e2 (and-left _ _ b), blank-is e3 (and-right (isBlank e2) _ b))
 
-      fill-1 : used (holding n four) 1 ≡ false → e1 ≡ blankEntry
-      fill-1 f = blank-entry e1 (blank-1 (holding n four) b f)
-
-      fill-2 : used (holding n four) 2 ≡ false → e2 ≡ blankEntry
-      fill-2 f = blank-entry e2 (blank-2 (holding n four) b f)
-
-      fill-3 : used (holding n four) 3 ≡ false → e3 ≡ blankEntry
-      fill-3 f = blank-entry e3 (blank-3 (holding n four) b f)
+    last-three : isBlank e1 && (isBlank e2 && isBlank e3) ≡ true → (e1 ≡ blankEntry) × ((e2 ≡ blankEntry) × (e3 ≡ blankEntry))
+    last-three b = (blank-is e1 (and-left _ _ b), last-two (and-right (isBlank e1) _ b))
 
     good-of : (n : ℕ) → Good (holding n four) → EachGood (take n four) × (four ≡ filled 4 (take n four))
-    unfolding gsvWrong
-    good-of zero g = (tt, rw (fill-0 0 (g .blank) refl, fill-1 0 (g .blank) refl, fill-2 0 (g .blank) refl, fill-3 0 (g .blank) refl))
-    good-of (suc zero) g =
-        (in-all 3 (e0 ∷ []) (all-zero _ (g .values) .1 .1 .1), rw (fill-1 1 (g .blank) refl, fill-2 1 (g .blank) refl, fill-3 1 (g .blank) refl))
-    good-of (suc (suc zero)) g =
-        (in-all 3 (e0 ∷ e1 ∷ []) (all-zero _ (g .values) .1 .1 .1), rw (fill-2 2 (g .blank) refl, fill-3 2 (g .blank) refl))
-    good-of (suc (suc (suc zero))) g =
-        (in-all 3 (e0 ∷ e1 ∷ e2 ∷ []) (all-zero _ (g .values) .1 .1 .1), rw (fill-3 3 (g .blank) refl))
+    unfolding gsvWrong restBlank
+    good-of zero g =
+        let b = last-three (and-right (isBlank e0) _ (g .blank)) in
+        (tt, rw (blank-is e0 (and-left _ _ (g .blank)), b .0, b .1 .0, b .1 .1))
+    good-of (suc zero) g = let b = last-three (g .blank) in (in-all 3 (e0 ∷ []) (all-zero _ (g .values) .1 .1 .1), rw (b .0, b .1 .0, b .1 .1))
+    good-of (suc (suc zero)) g = let b = last-two (g .blank) in (in-all 3 (e0 ∷ e1 ∷ []) (all-zero _ (g .values) .1 .1 .1), rw (b .0, b .1))
+    good-of (suc (suc (suc zero))) g = (in-all 3 (e0 ∷ e1 ∷ e2 ∷ []) (all-zero _ (g .values) .1 .1 .1), rw (blank-is e3 (g .blank)))
     good-of (suc (suc (suc (suc zero)))) g = (in-all 3 four (all-zero _ (g .values) .1 .1 .1), refl)
     good-of (suc (suc (suc (suc (suc n))))) g = let h = g .few in let z : ⊥ = omega arith in absurd z
 

@@ -2,8 +2,6 @@
 use borrow.Author.Needs.{needs}
 use Rattle.sky.proofs.lines_for.Statement.{statement}
 use Rattle.sky.proofs.lines_for.Tie as tie
-use Rattle.sky.proofs.lines_for.Reads as reads
-use Rattle.sky.proofs.lines_for.Lts as lts
 use borrow.Author.Tests.{ne-eqb}
 use Rattle.sky.specs.Group.{linesFor}
 
@@ -11,12 +9,9 @@ returns : tie.Need-returns
 unfolding linesFor
 returns c = rw (c .if1 .taken)
 
-add-result : tie.Need-add-result
-add-result c = search needs
-
 returns-2 : tie.Need-returns-2
 unfolding linesFor
 returns-2 c = rw (ne-eqb (c .before .args .n) 0 (c .if1 .left))
 
 pub lines-for-spec : {M : Type 1} → statement M
-lines-for-spec = tie.close (tie.spec returns add-result returns-2)
+lines-for-spec = tie.close (tie.spec returns (λ c. search needs) returns-2)

@@ -2,8 +2,6 @@
 use borrow.Author.Needs.{needs}
 use Rattle.sky.proofs.marks.mark.Statement.{statement}
 use Rattle.sky.proofs.marks.mark.Tie as tie
-use Rattle.sky.proofs.marks.mark.Reads as reads
-use Rattle.sky.proofs.marks.mark.Lts as lts
 use borrow.Author.Tests.{not-true, not-false}
 
 returns : tie.Need-returns
@@ -15,11 +13,8 @@ slice-read-had c = c .before .before .pre (not-false (c .before .before .args .u
 slice-write-seen : tie.Need-slice-write-seen
 slice-write-seen c = c .before .before .pre (not-false (c .before .before .args .used) (c .before .if1 .left))
 
-same-length : tie.Need-same-length
-same-length c = search needs
-
 returns-2 : tie.Need-returns-2
 returns-2 c = (rw (not-false (c .before .before .args .used) (c .before .if1 .left)), rw (not-false (c .before .before .args .used) (c .before .if1 .left)))
 
 pub mark-spec : {M : Type 1} → statement M
-mark-spec = tie.close (tie.spec returns slice-read-had slice-write-seen same-length returns-2)
+mark-spec = tie.close (tie.spec returns slice-read-had slice-write-seen (λ c. search needs) returns-2)
