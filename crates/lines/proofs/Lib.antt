@@ -3,3 +3,4 @@ pub mod Machine
 pub mod FirstNew
 pub mod Point3
 pub mod ReadOn
+pub mod CutBack

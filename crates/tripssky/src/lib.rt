@@ -1,0 +1,1 @@
+// Round trips of a whole group: proofs only.
