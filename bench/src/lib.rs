@@ -2,4 +2,5 @@
 
 pub mod plain;
 pub mod read;
+pub mod sky;
 pub mod write;

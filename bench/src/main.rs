@@ -1,5 +1,6 @@
 //! The proved functions against the same work written by hand in Rust, over one log.
 
+mod groups;
 mod log;
 mod rattle;
 mod records;
@@ -180,6 +181,12 @@ fn main() {
         };
         row(&what, lines.iter().map(|l| l.len()).sum(), lines.len(), race_reading(lines));
     }
+    for (satellites, what) in [(36, "group of nine lines read"), (12, "group of three lines read"), (3, "group of one line read")] {
+        let some = groups::of(SEED, satellites);
+        groups::agree(&some);
+        let lines = some.iter().flatten().filter(|&&b| b == b'\n').count();
+        row(what, some.iter().map(|g| g.len()).sum(), lines, race(&|| groups::all_by_rattle(&some), &|| groups::all_by_rust(&some)));
+    }
     writing::agree(&lines);
     writing::agree(&cut(&mixed));
     let show = |what: &str, lines: &[&[u8]]| {
@@ -207,5 +214,7 @@ fn both_sides_agree() {
     let log = log::log(7, 1 << 18);
     agree(&log);
     records::agree(&cut(&log));
+    groups::agree(&groups::of(7, 36));
+    groups::agree(&groups::of(8, 5));
     writing::agree(&cut(&log));
 }

@@ -8,6 +8,7 @@ extern "C" {
     fn castanwel_places(body: *const u8, body_len: usize, ends: *mut usize, ends_len: usize) -> usize;
     fn castanwel_feed(held: usize, b: u8, line: *mut usize) -> usize;
     fn castanwel_read(line: *const u8, line_len: usize, field: *mut usize) -> u8;
+    fn castanwel_sky_sum(s: *const u8, s_len: usize) -> u64;
     fn castanwel_write_times(line: *const u8, line_len: usize, out: *mut u8, out_len: usize, times: usize) -> usize;
 }
 
@@ -32,6 +33,11 @@ pub fn read(line: &[u8]) -> (u8, usize) {
 /// length of the last line written; 0 where the line does not read or the writer refused.
 pub fn write_times(line: &[u8], out: &mut [u8], times: usize) -> usize {
     unsafe { castanwel_write_times(line.as_ptr(), line.len(), out.as_mut_ptr(), out.len(), times) }
+}
+
+/// A number of what a group is read to: of all values of its table, or of its refusal.
+pub fn sky_sum(s: &[u8]) -> u64 {
+    unsafe { castanwel_sky_sum(s.as_ptr(), s.len()) }
 }
 
 /// Where the first line from `at` on lies, or `None`.
