@@ -15,6 +15,7 @@ use Rattle.records.specs.declared.Entry.{Entry}
 use Rattle.records.specs.Wrong.{nearOf, firstWrong}
 use Rattle.ranges.specs.Ranges.{outside, rangeWrong}
 use Rattle.trips.proofs.Known.{all-zero}
+use Rattle.trips.proofs.Values.{inside}
 use Rattle.sealing.specs.declared.Written.{Written}
 use Rattle.sealing.specs.Written.{refused, wrote}
 use Rattle.writesat.specs.Gsv.{entryAfters, isBlank}
@@ -54,18 +55,10 @@ wrong-few e =
     (near-few 2 (rangeWrong 0 359 (e .azimuth .there) (e .azimuth .value)) _ 4 (omega (arith, range-one 0 359 (e .azimuth .there) (e .azimuth .value)))
     (near-few 3 (rangeWrong 0 99 (e .signal .there) (e .signal .value)) 0 4 (omega (arith, range-one 0 99 (e .signal .there) (e .signal .value))) (omega arith))))
 
-inside-high : (lo hi v : ℕ) → outside lo hi v ≡ 0 → v ≤ hi
-unfolding outside
-inside-high lo hi v e = go (leb lo v && leb v hi) refl e
-  where
-    go : (t : Bool) → (leb lo v && leb v hi) ≡ t → _≡_ {A = ℕ} (cond t 0 1) 0 → v ≤ hi
-    go true q i = leb-true v hi (and-right (leb lo v) _ q)
-    go false q i = let z : ⊥ = omega arith in absurd z
-
 pub number-low : (e : Entry) (w : ℕ) → w ≡ entryWrong e → w ≡ 0 → e .number < 100
 unfolding entryWrong
 number-low e w p z =
-    let h : e .number ≤ 99 = inside-high 1 99 (e .number) (all-zero (entryAfters true 0 e) (sym p ∙ z) .0) in
+    let h : e .number ≤ 99 = inside 1 99 (e .number) (all-zero (entryAfters true 0 e) (sym p ∙ z) .0) .1 in
     omega (arith, h)
 
 -- One entry.

@@ -15,6 +15,7 @@ use Rattle.records.specs.Blank.{blankEntry}
 use Rattle.records.specs.Wrong.{After, firstWrong}
 use Rattle.ranges.specs.Ranges.{outside}
 use Rattle.trips.proofs.Known.{all-zero, zero-all}
+use Rattle.trips.proofs.Ranged.{in-outside}
 use Rattle.sealing.specs.declared.Written.{Written}
 use Rattle.sealing.specs.Written.{pick, refused, wrote}
 use Rattle.writesat.specs.Gsv.{entryOf, used, entryAfters, gsvWrong, isBlank, restBlank, gsvFault}
@@ -105,10 +106,6 @@ pass-last true n e g =
     zero-all (entryAfters true n e) (w .0, (w .1 .0, (w .1 .1 .0, (w .1 .1 .1 .0, tt))))
 pass-last false n e g = refl
 
-inside : (lo hi v : ℕ) → lo ≤ v → v ≤ hi → outside lo hi v ≡ 0
-unfolding outside
-inside lo hi v a b = rw (le-leb lo v a, le-leb v hi b)
-
 or-blank : (u b : Bool) → (u ≡ false → b ≡ true) → (u || b) ≡ true
 or-blank true b h = refl
 or-blank false b h = h refl
@@ -146,11 +143,11 @@ module _ (r : Table) (k : ℕ) where
           let m = lines-are (r .count) in
           let nine = m .nine (c .few) in
           zero-all _ (
-            inside 1 9 (linesFor (r .count)) (m .one) nine,
+            in-outside 1 9 (linesFor (r .count)) (m .one) nine,
             (
-              inside 1 9 k from (omega (arith, to, nine)),
+              in-outside 1 9 k from (omega (arith, to, nine)),
               (
-                inside 0 99 (r .count) (omega arith) (omega (arith, c .few)),
+                in-outside 0 99 (r .count) (omega arith) (omega (arith, c .few)),
                 all-zero _
                     (pass (used (lineAt r k) 0) 3 (entryOf (lineAt r k) 0) _ (at-used 0 (lit< tt))
                     (pass (used (lineAt r k) 1) 7 (entryOf (lineAt r k) 1) _ (at-used 1 (lit< tt))

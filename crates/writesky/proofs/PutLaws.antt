@@ -1,5 +1,6 @@
 -- Before line k the lines before it stand at the start of the output and the others are still to come, so that all of them are the group;
--- each line finds room, since the group has it, and moves the place where the next one starts to its own end.
+-- each line finds room, since the group has it, and moves the place where the next one starts to its own end. What the writer answers and
+-- leaves then follows from the table's fault, the size of the group and the room.
 use Prim.Native.Nat.{ℕ, suc, _+_, _-_, _≤_, _<_}
 use mathlib.Core.Path.{_≡_, refl, sym, _∙_, ap}
 use mathlib.Core.List.{List, _++_, append-assoc, append-nil}
