@@ -152,7 +152,7 @@ entry-long : (u : Bool) (e : Entry) → total (entryFields u e) ≤ 13
 entry-long true e = omega (arith, length-fixed 2 (e .number), long-fixed 2 (e .elevation), long-fixed 3 (e .azimuth), long-fixed 2 (e .signal))
 entry-long false e = omega arith
 
-total-append : (fs gs : List (List ℕ)) → total (fs ++ gs) ≡ total fs + total gs
+pub total-append : (fs gs : List (List ℕ)) → total (fs ++ gs) ≡ total fs + total gs
 total-append [] gs = sym (zero-add (total gs))
 total-append (f ∷ fs) gs = let e = total-append fs gs in omega (arith, e)
 

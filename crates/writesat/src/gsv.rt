@@ -15,7 +15,7 @@ ghost use Rattle.writesat.specs.Gsv.{isMissing, isBlank, restBlank, gsvW
 
 // The first wrong field from an entry's on, whose first field stands after `n` others; `rest` is the first
 // after it, and so it is where the entry is not used.
-fn entry_wrong(used: bool, e: Entry, n: u8, rest: usize) -> usize
+pub fn entry_wrong(used: bool, e: Entry, n: u8, rest: usize) -> usize
     requires { ⌜ n ≤ 15 ⌝ }
     ensures { λ w. ⌜ w ≡ cond used (nearOf n (outside 1 99 (e .number)) (nearOf (n + 1) (rangeWrong 0 90 (e .elevation .there) (e .elevation .value)) (nearOf (n + 2) (rangeWrong 0 359 (e .azimuth .there) (e .azimuth .value)) (nearOf (n + 3) (rangeWrong 0 99 (e .signal .there) (e .signal .value)) rest)))) rest ⌝ }
 {
@@ -60,7 +60,7 @@ fn is_missing(there: bool, v: u32) -> bool
 }
 
 // Whether an entry is blank: number 0 and three values missing and zero.
-fn is_blank(e: Entry) -> bool
+pub fn is_blank(e: Entry) -> bool
     ensures { λ b. ⌜ b ≡ isBlank e ⌝ }
 {
     let elevation = is_missing(e.elevation.there, e.elevation.value);

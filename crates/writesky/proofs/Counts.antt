@@ -1,0 +1,82 @@
+-- How many lines and entries up to 36 satellites take, in numbers, and which of a table's places a line's entries are.
+use Prim.Native.Nat.{ℕ, zero, suc, _+_, _-_, _*_, _/_, _≤_, _<_}
+use mathlib.Core.Path.{_≡_, refl, sym, _∙_, ap}
+use mathlib.Core.List.{List, [], _∷_, map}
+use mathlib.Core.Bool.{Bool, true, false, cond}
+use native.Mathlib.Omega.{arith}
+use native.Mathlib.Nat.{add-zero}
+use lib.Dec.{eqb, ltb, lit<}
+use lib.ListN.{length, getD, take, drop, length-take, length-drop, length-map}
+use lib.Seq.{take-all, take-take, take-nil, drop-nil, length-take-le, getD-take, getD-drop}
+use borrow.Author.Tests.{eqb-true, eqb-false, ltb-true, ltb-false}
+use Rattle.tripssat.proofs.Lists.{all-four}
+use Rattle.sky.specs.Group.{linesFor, entriesAt}
+
+-- At least one line, enough lines for all, and nine for 36.
+pub record Lines (n m : ℕ) : Type 0 where
+  pub one : 1 ≤ m
+  pub all : n ≤ 4 * m
+  pub nine : n ≤ 36 → m ≤ 9
+
+pub lines-are : (n : ℕ) → Lines n (linesFor n)
+unfolding linesFor
+lines-are n = go (eqb n 0) refl
+  where
+    go : (t : Bool) → eqb n 0 ≡ t → Lines n (cond t 1 ((n + 3) / 4))
+    go true e = let z = eqb-true n 0 e in record { one = omega arith; all = omega (arith, z); nine = λ h. omega arith }
+    go false e =
+        let z : 1 ≤ n = some n (eqb-false n 0 e) in
+        record { one = omega (arith, z); all = omega (arith, z); nine = λ h. omega (arith, h) }
+      where
+        some : (n : ℕ) → (n ≡ 0 → ⊥) → 1 ≤ n
+        some zero h = absurd (h refl)
+        some (suc n) h = omega arith
+
+-- What is left for a line, at most four.
+pub record Fewer (left c : ℕ) : Type 0 where
+  pub four : c ≤ 4
+  pub most : c ≤ left
+  pub rest : c < 4 → c ≡ left
+
+pub entries-are : (n k : ℕ) → Fewer (n - 4 * (k - 1)) (entriesAt n k)
+unfolding entriesAt
+entries-are n k = go (ltb 4 (n - 4 * (k - 1))) refl
+  where
+    go : (t : Bool) → ltb 4 (n - 4 * (k - 1)) ≡ t → Fewer (n - 4 * (k - 1)) (cond t 4 (n - 4 * (k - 1)))
+    go true e =
+        let h = ltb-true 4 (n - 4 * (k - 1)) e in
+        record { four = omega arith; most = omega (arith, h); rest = λ i. let z : ⊥ = omega (arith, i) in absurd z }
+    go false e = record { four = ltb-false 4 (n - 4 * (k - 1)) e; most = omega arith; rest = λ i. refl }
+
+drop-take : {A : Type 0} (a n : ℕ) (l : List A) → drop a (take n l) ≡ take (n - a) (drop a l)
+drop-take zero n l = let e : n - 0 ≡ n = omega arith in rw e
+drop-take (suc a) zero l = drop-nil (suc a) ∙ sym (let e : 0 - suc a ≡ 0 = omega arith in rw e)
+drop-take (suc a) (suc n) [] = drop-nil (suc a) ∙ sym (take-nil (suc n - suc a))
+drop-take (suc a) (suc n) (x ∷ l) = let e : suc n - suc a ≡ n - a = omega arith in drop-take a n l ∙ sym (rw e)
+
+-- The used entries of a line are the next four of the table's used ones, or those that are left.
+pub used-part : {A : Type 0} (l : List A) (n a c : ℕ) → Fewer (n - a) c → take c (take 4 (drop a l)) ≡ take 4 (drop a (take n l))
+used-part l n a c f = take-take c 4 (drop a l) (f .four) ∙ go (ltb c 4) refl ∙ sym (ap (take 4) (drop-take a n l))
+  where
+    go : (t : Bool) → ltb c 4 ≡ t → take c (drop a l) ≡ take 4 (take (n - a) (drop a l))
+    go true e =
+        let q : c ≡ n - a = f .rest (ltb-true c 4 e) in
+        ap (λ (m : ℕ). take m (drop a l)) q
+        ∙ sym (take-all 4 (take (n - a) (drop a l)) (omega (arith, length-take (n - a) (drop a l), q, f .four)))
+    go false e =
+        let h : 4 ≤ c = ltb-false c 4 e in
+        let q : c ≡ 4 = omega (arith, h, f .four) in
+        ap (λ (m : ℕ). take m (drop a l)) q ∙ sym (take-take 4 (n - a) (drop a l) (omega (arith, h, f .most)))
+
+-- The four elements from place a on.
+pub four-at : {A : Type 0} (d : A) (l : List A) (a : ℕ) → a + 4 ≤ length l → getD l a d ∷ getD l (a + 1) d ∷ getD l (a + 2) d ∷ getD l (a + 3) d ∷ [] ≡ take 4 (drop a l)
+four-at d l a h =
+    let n : length (take 4 (drop a l)) ≡ 4 = length-take-le 4 (drop a l) (omega (arith, h, length-drop a l)) in
+    rw (at 0 (lit< tt), at 1 (lit< tt), at 2 (lit< tt), at 3 (lit< tt), add-zero a) at (all-four d (take 4 (drop a l)) n)
+  where
+    at : (j : ℕ) → j < 4 → getD (take 4 (drop a l)) j d ≡ getD l (a + j) d
+    at j i = getD-take 4 (drop a l) j d i ∙ getD-drop a l j d
+
+-- What is known of a table's places is known of them as they are held.
+pub length-mapped : (A B : Type 0) (f : A → B) (l : List A) (n : ℕ) → length (map f l) ≡ n → length l ≡ n
+length-mapped A B f l n e = sym (length-map l f) ∙ e
