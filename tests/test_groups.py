@@ -1,4 +1,5 @@
 """The proved group reader and group writer, by way of the program scribe, against the second program: seeded rows, every size and room, damage."""
+import functools
 import itertools
 import random
 import re
@@ -59,11 +60,19 @@ def as_read(talker, entries):
     return b" ".join([b"ok", talker, b"%d" % len(entries)] + [as_words(one) for one in entries])
 
 
-def groups(seed, sizes):
-    """The bytes of a group of each size, as the writer makes them."""
-    rng = random.Random(seed)
-    rows = [table_row(rng.choice(TALKERS), 1000, table(rng, size)) for size in sizes]
-    return [bytes.fromhex(answer.decode().removeprefix("ok ")) for answer in wrote(rows)]
+@functools.cache
+def skies():
+    """For each size and talker a sound table and the group that both programs write of it, as `(talker, entries, bytes)`."""
+    rng = random.Random(34)
+    tables = [(talker, table(rng, size)) for size in range(PLACES + 1) for talker in TALKERS]
+    ours = wrote([table_row(talker, 1000, entries) for talker, entries in tables])
+    assert {short(answer) for answer in ours} == {"ok"}
+    return [(*one, bytes.fromhex(answer.decode().removeprefix("ok "))) for one, answer in zip(tables, ours)]
+
+
+def sky_of(size):
+    """A sky of a size, of one talker or another."""
+    return skies()[len(TALKERS) * size + size % len(TALKERS)]
 
 
 def hexed(pieces):
@@ -84,24 +93,16 @@ def test_tables_are_written_as_the_second_program_writes_them():
 
 
 def test_what_is_written_is_read_back():
-    rng = random.Random(34)
-    skies = [(talker, table(rng, size)) for size in range(PLACES + 1) for talker in TALKERS]
-    written = wrote([table_row(talker, 1000, entries) for talker, entries in skies])
-    assert {short(answer) for answer in written} == {"ok"}
-    back = read([answer.removeprefix(b"ok ") for answer in written])
-    assert back == [as_read(talker, entries) for talker, entries in skies]
+    back = read(hexed(data for _, _, data in skies()))
+    assert back == [as_read(talker, entries) for talker, entries, _ in skies()]
 
 
 def test_every_room_of_a_table():
-    rng = random.Random(35)
     asked, expected = [], []
-    for size in (0, 1, 4, 5, PLACES):
-        entries = table(rng, size)
-        [answer] = wrote([table_row(b"GN", 1000, entries)])
-        length = len(answer.removeprefix(b"ok ")) // 2
-        for room in range(length + 3):
-            asked.append(table_row(b"GN", room, entries))
-            expected.append(answer if room >= length else b"refused 8 0 0")
+    for talker, entries, data in map(sky_of, (0, 1, 4, 5, PLACES)):
+        for room in range(len(data) + 3):
+            asked.append(table_row(talker, room, entries))
+            expected.append(b"ok " + data.hex().encode() if room >= len(data) else b"refused 8 0 0")
     assert wrote(asked) == expected
 
 
@@ -131,9 +132,9 @@ def damaged(data):
 
 
 def test_one_byte_of_damage_is_refused_at_its_line():
-    pairs = [(data, hurt) for data in groups(36, (0, 1, 5, 9)) for hurt in damaged(data)]
-    [full] = groups(37, (PLACES,))
-    pairs += [(full, hurt) for hurt in random.Random(38).sample(list(damaged(full)), 4000)]
+    pairs = [(data, hurt) for _, _, data in map(sky_of, (0, 1, 5, 9)) for hurt in damaged(data)]
+    _, _, full = sky_of(PLACES)
+    pairs += [(full, hurt) for hurt in random.Random(35).sample(list(damaged(full)), 4000)]
     assert len(pairs) > 15000
     met = set()
     for (data, hurt), answer in zip(pairs, read(hexed(hurt for _, hurt in pairs)), strict=True):
@@ -145,39 +146,43 @@ def test_one_byte_of_damage_is_refused_at_its_line():
 
 def test_a_line_past_a_full_last_one():
     totals = range(1, 9)
-    skies = groups(39, [4 * k for k in totals])
-    rows = [data + line_of(data[1:6] + b",%d,%d,%02d" % (k, k + 1, 4 * k)) for k, data in zip(totals, skies)]
+    rows = []
+    for k in totals:
+        talker, _, data = sky_of(4 * k)
+        rows.append(data + line_of(b"%sGSV,%d,%d,%02d" % (talker, k, k + 1, 4 * k)))
     assert read(hexed(rows)) == [b"refused 6 %d 0" % (k + 1) for k in totals]
 
 
 def test_long_rows():
-    noise = random.Random(40)
-    [full] = groups(41, (PLACES,))
+    noise = random.Random(36)
+    _, _, full = sky_of(PLACES)
     long = [full * (32760 // len(full)), full + noise.randbytes(15000), noise.randbytes(32760), b"\n" * 15000, b"$" * 32760,
             b"0" * 32760]
     assert read(hexed(long))[:2] == [b"refused 6 10 0", b"refused 1 10 0"]
 
 
 def test_numbers_too_wide_for_a_table():
-    sound = table(random.Random(42), 36)
-    rows = []
-    for wide in (-1, 100, 4294967296, 4294967297, 18446744073709551617, -4294967295):
-        rows += [b"GP 1000 %d %s" % (wide, as_words(sum(sound, [])))]
-        for at in (0, 2, 4, 6):
+    _, sound, _ = sky_of(PLACES)
+    rows, expected = [], []
+    for wide in (-1, 360, 4294967296, 4294967297, 18446744073709551617, -4294967295):
+        rows.append(b"GP 1000 %d %s" % (wide, as_words(sum(sound, []))))
+        expected.append(b"refused 5 0 0")
+        for field, at in enumerate((0, 2, 4, 6), 8):
             rows.append(table_row(b"GP", 1000, sound[:9] + [sound[9][:at] + [wide] + sound[9][at + 1:]]))
-    assert {answer.split()[2] for answer in wrote(rows)} >= {b"0", b"3"}
+            expected.append(b"refused 5 3 %d" % field)
+    assert wrote(rows) == expected
 
 
 def test_rows_of_groups_that_are_none():
-    [data] = groups(43, (5,))
-    row = table_row(b"GP", 1000, table(random.Random(44), 5))
+    _, entries, data = sky_of(5)
+    row = table_row(b"GP", 1000, entries)
     hexes = data.hex().encode()
     none = [b"group " + bad for bad in (b"2", hexes[:-1], b" " + hexes, hexes + b" ", hexes + b"g", b"-" + hexes, hexes + b"\r")]
     none += [b"groups " + hexes, b"Group " + hexes, b"group," + hexes, b" group " + hexes, b"grou", b"group" + hexes]
     none += [b"table", b"table ", b"table GP", b"table " + row[:-2], b"table " + row + b" 0", b"table " + row + b" ", b"table " + row + b"\r"]
     none += [b"table GX" + row[2:], b"table gp" + row[2:], b"table PI" + row[2:], b"table GP -1" + row[7:], b"table  " + row, b"table," + row]
-    for bad, answer in zip(none, answers(none), strict=True):
+    *ours, empty, bare, small, large = answers(none + [b"group", b"group ", b"group " + hexes, b"group " + hexes.upper()])
+    for bad, answer in zip(none, ours, strict=True):
         assert answer == b"no row", bad
-    assert answers([b"group", b"group "]) == [b"refused 1 1 0"] * 2
-    small, large = answers([b"group " + hexes, b"group " + hexes.upper()])
+    assert empty == bare == b"refused 1 1 0"
     assert small == large and short(small) == "ok"
