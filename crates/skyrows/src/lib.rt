@@ -1,7 +1,5 @@
 // What the scribe answers to a row: `group` and the bytes of a group, `table` and the numbers of a sky; any other row is
 // one for a line.
-mod group;
-mod hex;
 mod table;
 
 // Whether the first word of a row is `word`.
@@ -21,7 +19,7 @@ fn begins(row: &[u8], word: &[u8]) -> bool {
 
 fn put_reply(out: &mut [u8], at: usize, row: &[u8]) -> usize {
     if begins(row, b"group") {
-        return group::put_reply(out, at, row);
+        return grouprow::put_reply(out, at, row);
     }
     if begins(row, b"table") {
         return table::put_reply(out, at, row);

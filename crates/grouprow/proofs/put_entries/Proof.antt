@@ -4,8 +4,8 @@ use mathlib.Core.Path.{_≡_, refl}
 use native.Mathlib.Omega.{arith}
 use borrow.Author.Needs.{needs}
 use lib.ListN.{length}
-use Rattle.skyrows.proofs.group.put_entries.Statement.{statement}
-use Rattle.skyrows.proofs.group.put_entries.Tie as tie
+use Rattle.grouprow.proofs.put_entries.Statement.{statement}
+use Rattle.grouprow.proofs.put_entries.Tie as tie
 
 abbrev Inv-loop : tie.InvT-loop
 Inv-loop out₀ at count entries place₀ i₀ out place i = (i ≤ 36) × (length out ≡ length out₀)

@@ -1,5 +1,6 @@
-// A group read: the row `group HEX`, where the bytes may be none.
-use crate::hex;
+// What the scribe answers to a row `group HEX`: the group that the bytes are read as. There may be none.
+mod hex;
+
 use address::Talker;
 use sky::Sky;
 use sky::Table;
