@@ -17,18 +17,34 @@ fn begins(row: &[u8], word: &[u8]) -> bool {
     row[n] == b' '
 }
 
-fn put_reply(out: &mut [u8], at: usize, row: &[u8]) -> usize {
+// What a row asks for.
+enum Asked {
+    Group,
+    Table,
+    Line,
+}
+
+fn asked_of(row: &[u8]) -> Asked {
     if begins(row, b"group") {
-        return grouprow::put_reply(out, at, row);
+        return Asked::Group;
     }
     if begins(row, b"table") {
-        return table::put_reply(out, at, row);
+        return Asked::Table;
     }
-    answers::put_reply(out, at, row)
+    Asked::Line
+}
+
+fn put_reply(out: &mut [u8], at: usize, row: &[u8], asked: Asked) -> usize {
+    match asked {
+        Asked::Group => grouprow::put_reply(out, at, row),
+        Asked::Table => table::put_reply(out, at, row),
+        Asked::Line => answers::put_reply(out, at, row),
+    }
 }
 
 // Puts the answer to a row, ended by LF.
 pub fn put_row(out: &mut [u8], at: usize, row: &[u8]) -> usize {
-    let a1 = put_reply(out, at, row);
+    let asked = asked_of(row);
+    let a1 = put_reply(out, at, row, asked);
     text::put_bytes(out, a1, b"\n")
 }
