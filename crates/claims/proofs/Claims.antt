@@ -1,6 +1,6 @@
 -- The claims of the library, each under a plain sentence. The argument of each stands in the file that its last line names; what a
 -- function is promised to give stands in its contract, in src/, and in the definition that the contract cites, in specs/.
-use Prim.Native.Nat.{ℕ, _+_, _-_}
+use Prim.Native.Nat.{ℕ, _+_, _-_, _≤_, _<_}
 use mathlib.Core.Path.{_≡_}
 use mathlib.Core.List.{List, [], _∷_, _++_}
 use mathlib.Core.Bool.{true, false}
@@ -11,6 +11,7 @@ use Rattle.line.proofs.Form as Form
 use Rattle.lines.specs.Cut.{cutLines, joined}
 use Rattle.lines.specs.Edit.{OneByte}
 use Rattle.lines.specs.Reader.{Step, stop, readLines}
+use Rattle.lines.specs.New.{lineOf}
 use Rattle.lines.specs.Caught.{NotRefused, Caught}
 use Rattle.lines.proofs.CutLaws as CutLaws
 use Rattle.lines.proofs.Machine as Machine
@@ -34,11 +35,17 @@ use Rattle.records.specs.declared.Sentence.the-variants as S
 use Rattle.records.specs.declared.Entry.{Entry}
 use Rattle.sky.specs.Group as Group
 use Rattle.sky.proofs.Damage as Damage
+use Rattle.sky.specs.declared.Table.{Table}
+use Rattle.sky.specs.Sky.{tableOf}
+use Rattle.sky.specs.Table.{WritesGroup}
+use Rattle.tripssky.proofs.Exactly as Exactly
+use Rattle.tripssky.proofs.Half as Half
 use Rattle.sealing.specs.declared.Written.{Written}
-use Rattle.sealing.specs.Written.{faultAt, Writes}
+use Rattle.sealing.specs.Written.{faultAt, wrote, Writes}
 use Rattle.writenav.specs.Gga.{ggaBody, ggaWrong}
 use Rattle.claims.proofs.Rewriting as Rewriting
 use Rattle.claims.proofs.Writing as Writing
+use Rattle.claims.proofs.Skies as Skies
 use Rattle.claims.proofs.Rows.{rows, AllHold, rows-hold}
 
 -- What the line rule accepts is `$`, a body of 1 to 76 allowed bytes, `*`, the two digits of its XOR, CR, LF ..
@@ -76,6 +83,38 @@ damage-caught = Point3.point-three
 pub group-damage-caught : {g h : List ℕ} (t : Talker) (es : List Entry) → OneByte g h → Group.groupOf g ≡ Group.whole t es
     → Caught Group.refused (cutLines g) (cutLines h) (Group.groupOf h)
 group-damage-caught = Damage.damage-caught
+
+-- A group that was read, written into an output with room for it, is the same bytes ..
+pub group-same-bytes : (g : List ℕ) (t : Talker) (es : List Entry) → Group.groupOf g ≡ Group.whole t es
+    → {out : List ℕ} {answer : Written} {left : List ℕ} → length g ≤ length out → WritesGroup t (tableOf es) out answer left
+    → (answer ≡ wrote (length g)) × (take (length g) left ≡ g)
+group-same-bytes = Skies.group-same-bytes
+
+-- .. what a group writer wrote is read back as the same table ..
+pub group-back : {t : Talker} {r : Table} {out : List ℕ} {answer : Written} {left : List ℕ} → WritesGroup t r out answer left → answer .no ≡ 0
+    → length (r .entries) ≡ 36 → Group.groupOf (take (answer .length) left) ≡ Group.whole t (take (r .count) (r .entries))
+group-back = Skies.group-back
+
+-- .. so the groups are exactly what is written of the tables in range, and there is one of each count from 0 to 36.
+pub group-exactly : (g : List ℕ) → (Exactly.IsGroup g → Exactly.IsWritten g) × (Exactly.IsWritten g → Exactly.IsGroup g)
+group-exactly = Exactly.exactly
+
+pub group-every-count : (n : ℕ) → n ≤ 36 → (g : List ℕ) × (x : Exactly.IsGroup g) × (length (x .entries) ≡ n)
+group-every-count = Exactly.every-count
+
+-- The lines of a whole group up to any before the last are refused, with 6 at the next line: half a list is no sky.
+pub group-half-refused : (g : List ℕ) (t : Talker) (es : List Entry) (ls : List (List ℕ)) (l : List ℕ) (ms : List (List ℕ))
+    → Group.groupOf g ≡ Group.whole t es → cutLines g ≡ ls ++ (l ∷ ms) → 0 < length ls → Group.groupOf (joined ls) ≡ Group.refused 6 (length ls + 1) 0
+group-half-refused = Half.half-refused
+
+-- No reader that goes by the first line alone reads groups.
+pub group-not-line-one : (P : List ℕ → Group.Answer) → ((g : List ℕ) → Group.groupOf g ≡ P (lineOf (cutLines g) 1)) → ⊥
+group-not-line-one = Half.not-line-one
+
+-- A group writer that refuses leaves every byte of the output.
+pub group-refusal-leaves : {t : Talker} {r : Table} {out : List ℕ} {answer : Written} {left : List ℕ} → WritesGroup t r out answer left
+    → (answer .no ≡ 0 → ⊥) → left ≡ out
+group-refusal-leaves = Skies.group-refusal-leaves
 
 -- Bytes cut and joined again are the bytes.
 pub cut-joined : (s : List ℕ) → joined (cutLines s) ≡ s

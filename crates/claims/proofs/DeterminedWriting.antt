@@ -1,9 +1,9 @@
 -- The functions that write: any two results that a contract permits are equal. A put answers a place and leaves a buffer, both as one
 -- definition says; a writer answers and leaves the output as `Writes` says.
-use Prim.Native.Nat.{ℕ}
+use Prim.Native.Nat.{ℕ, _+_}
 use mathlib.Core.Path.{_≡_, sym, ap, _∙_}
 use mathlib.Core.List.{List, [], _∷_, _++_}
-use mathlib.Core.Bool.{Bool}
+use mathlib.Core.Bool.{Bool, cond}
 use lib.IntN.{ℤ, natAbs}
 use lib.ListN.{take}
 use Rattle.address.specs.declared.Talker.{Talker}
@@ -22,10 +22,12 @@ use Rattle.texts.specs.Texts.{dayField, ewField, heightText, hoursField, ifTher
 use Rattle.sealing.specs.declared.Written.{Written}
 use Rattle.sealing.specs.Body.{talkerText}
 use Rattle.sealing.specs.Written.{faultAt, refused, Writes}
+use Rattle.records.specs.declared.Entry.{Entry}
 use Rattle.records.specs.declared.Gsa.{Gsa}
+use Rattle.records.specs.Wrong.{nearOf}
 use Rattle.records.specs.declared.Gsv.{Gsv}
 use Rattle.writesat.specs.Gsa.{gsaBody, gsaWrong}
-use Rattle.writesat.specs.Gsv.{gsvBody, gsvFault}
+use Rattle.writesat.specs.Gsv.{gsvBody, gsvFault, isBlank}
 use Rattle.writecom.specs.Pirer.{pirerBody}
 use Rattle.records.specs.declared.Gga.{Gga}
 use Rattle.writenav.specs.Gga.{ggaBody, ggaWrong}
@@ -51,6 +53,8 @@ use Rattle.records.specs.declared.MasksTold.{MasksTold}
 use Rattle.writecom.specs.Pirsa.{pirsaBody, pirsaWrong}
 use Rattle.records.specs.declared.CodeTold.{CodeTold}
 use Rattle.writecom.specs.Pirea.{pireaBody, pireaWrong}
+use Rattle.sky.specs.Group.{linesFor, entriesAt}
+use Rattle.sky.specs.Marks.{hadIf, markedIf}
 use Rattle.claims.proofs.Determined.{One, one}
 
 -- One place and one buffer after a text was put, or some fields.
@@ -251,3 +255,19 @@ write-pirea out r = one-writing (faultAt (pireaWrong r)) (pireaBody r) out
 
 pub write-pirer : (out : List ℕ) → OneWriting (faultAt 0) pirerBody out
 write-pirer out = one-writing (faultAt 0) pirerBody out
+
+-- sky
+pub sky-lines-for : (n : ℕ) → One (linesFor n)
+sky-lines-for n = one
+
+pub sky-entries-at : (n k : ℕ) → One (entriesAt n k)
+sky-entries-at n k = one
+
+pub sky-mark : (seen : List ℕ) (used : Bool) (n : ℕ) → One (hadIf used n seen) × One (markedIf used n seen)
+sky-mark seen used n = (one, one)
+
+pub is-blank : (e : Entry) → One (isBlank e)
+is-blank e = one
+
+pub entry-wrong : (used : Bool) (e : Entry) (n rest : ℕ) → One (cond used (nearOf n (outside 1 99 (e .number)) (nearOf (n + 1) (rangeWrong 0 90 (e .elevation .there) (e .elevation .value)) (nearOf (n + 2) (rangeWrong 0 359 (e .azimuth .there) (e .azimuth .value)) (nearOf (n + 3) (rangeWrong 0 99 (e .signal .there) (e .signal .value)) rest)))) rest)
+entry-wrong used e n rest = one

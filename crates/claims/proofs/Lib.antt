@@ -7,3 +7,4 @@ pub mod Rewriting
 pub mod Writing
 pub mod Lengths
 pub mod DeterminedWriting
+pub mod Skies

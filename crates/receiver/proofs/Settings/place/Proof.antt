@@ -1,0 +1,29 @@
+-- `place` meets its contract: datum and zone after the command are told.
+use borrow.Author.Needs.{needs}
+use Rattle.receiver.proofs.Settings.place.Statement.{statement}
+use Rattle.receiver.proofs.Settings.place.Tie as tie
+use mathlib.Core.Path.{_∙_, ap, subst}
+use Rattle.records.specs.declared.DatumTold.{DatumTold}
+use Rattle.sealing.specs.Written.{faultAt, Writes}
+use Rattle.writecom.specs.Pirta.{pirtaWrong, pirtaBody}
+use Rattle.receiver.specs.Command.{afterDatum, datumTold, handedOver}
+use Rattle.receiver.proofs.DoesLaws.{does-reply}
+
+returns : tie.Need-returns
+returns c =
+    let args = c .before .before .before .before .before .before .before .before .args in
+    let write = c .before .before .before .write in
+    let same = c .before .before .before .before .before .datum-told .ensures ∙ ap datumTold (c .before .before .before .before .before .before .after-datum .ensures) in
+    let told = subst (λ (x : DatumTold). Writes (faultAt (pirtaWrong x)) (pirtaBody x) (args .out .now) (write .result) (write .last .0)) same (write .ensures) in
+    does-reply (args .self) (afterDatum (args .self) (args .r)) _ _ _ _ _ (c .hand-over .result) told (c .hand-over .ensures ∙ ap (handedOver (write .result) (args .self)) (c .before .before .before .before .before .before .after-datum .ensures))
+
+pub place-spec : {M : Type 1} → statement M
+place-spec =
+    tie.close
+    (tie.spec
+    (λ c κs. search needs)
+    (λ c κs. search needs)
+    (λ c κs. search needs)
+    (λ c κs. search needs)
+    (λ c. search needs)
+    returns)

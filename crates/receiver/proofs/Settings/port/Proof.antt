@@ -1,0 +1,32 @@
+-- `port` meets its contract: the port after the command is told.
+use borrow.Author.Needs.{needs}
+use Rattle.receiver.proofs.Settings.port.Statement.{statement}
+use Rattle.receiver.proofs.Settings.port.Tie as tie
+use Prim.Native.Nat.{ℕ}
+use mathlib.Core.Path.{_∙_, ap, subst}
+use Rattle.records.specs.declared.PortTold.{PortTold}
+use Rattle.sealing.specs.Written.{faultAt, Writes}
+use Rattle.writecom.specs.Pirpa.{pirpaWrong, pirpaBody}
+use Rattle.receiver.specs.declared.Settings.{Settings}
+use Rattle.receiver.specs.Command.{namedPort, afterPort, portTold, handedOver}
+use Rattle.receiver.proofs.DoesLaws.{does-reply}
+
+returns : tie.Need-returns
+returns c =
+    let args = c .before .before .before .before .before .before .before .before .before .args in
+    let write = c .before .before .before .write in
+    let same = c .before .before .before .before .before .port-told .ensures ∙ ap (λ (n : ℕ). portTold (c .before .before .before .before .before .before .before .after-port .result) n) (c .before .before .before .before .before .before .named-port .ensures) ∙ ap (λ (x : Settings). portTold x (namedPort (args .arrival) (args .r))) (c .before .before .before .before .before .before .before .after-port .ensures) in
+    let told = subst (λ (x : PortTold). Writes (faultAt (pirpaWrong x)) (pirpaBody x) (args .out .now) (write .result) (write .last .0)) same (write .ensures) in
+    does-reply (args .self) (afterPort (args .self) (args .arrival) (args .r)) _ _ _ _ _ (c .hand-over .result) told (c .hand-over .ensures ∙ ap (handedOver (write .result) (args .self)) (c .before .before .before .before .before .before .before .after-port .ensures))
+
+pub port-spec : {M : Type 1} → statement M
+port-spec =
+    tie.close
+    (tie.spec
+    (λ c κs. search needs)
+    (λ c κs. search needs)
+    (λ c κs. search needs)
+    (λ c κs. search needs)
+    (λ c κs. search needs)
+    (λ c. search needs)
+    returns)
