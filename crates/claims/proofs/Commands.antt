@@ -1,38 +1,27 @@
 -- Commands from the contract of the step. Only an answer without a refusal changes a setting, and then the reply was written: so its values,
 -- which are those after the command, are in range, and it reads back as the record of them.
 use Prim.Native.Nat.{ℕ, zero, suc}
-use mathlib.Core.Path.{_≡_, refl, sym, ap, subst, _∙_}
-use mathlib.Core.List.{List, [], _∷_}
-use mathlib.Core.Bool.{Bool, true, false, _&&_}
+use mathlib.Core.Path.{_≡_, refl, sym, ap, _∙_}
+use mathlib.Core.List.{List}
+use mathlib.Core.Bool.{Bool, true, false}
 use native.Mathlib.Omega.{arith}
-use lib.Dec.{eqb, ltb}
+use lib.Dec.{eqb}
 use lib.Count.{ones}
-use lib.ListN.{length, take}
-use borrow.Author.Tests.{eq-eqb, ne-eqb, eqb-true, eqb-false}
-use Rattle.digits.proofs.Bools.{and-left, and-right, and-both}
-use Rattle.ranges.specs.Ranges.{outside, portWrong, signedWrong}
-use Rattle.records.specs.declared.CodeTold.{CodeTold}
+use lib.ListN.{length}
+use borrow.Author.Tests.{ne-eqb}
 use Rattle.records.specs.declared.DatumAsked.{DatumAsked}
 use Rattle.records.specs.declared.MasksAsked.{MasksAsked}
 use Rattle.records.specs.declared.PortAsked.{PortAsked}
-use Rattle.records.specs.declared.Sentence.{Sentence}
 use Rattle.records.specs.declared.Sentence.the-variants as S
-use Rattle.records.specs.Blank.{aloneOf}
-use Rattle.reading.specs.Lines.{readLine}
 use Rattle.sealing.specs.declared.Written.{Written}
-use Rattle.sealing.specs.Written.{pick, faultAt, writtenOf, leftOf, Writes}
-use Rattle.trips.proofs.Known.{all-zero}
-use Rattle.writecom.specs.Pirea.{pireaWrong, pireaBody}
+use Rattle.sealing.specs.Written.{pick, faultAt, writtenOf, leftOf}
 use Rattle.writecom.specs.Pirpa.{pirpaWrong, pirpaBody}
-use Rattle.writecom.specs.Pirsa.{pirsaWrong, pirsaBody}
-use Rattle.writecom.specs.Pirta.{pirtaWrong, pirtaBody}
 use Rattle.receiver.specs.declared.Counts.{Counts}
 use Rattle.receiver.specs.declared.Done.{Done}
 use Rattle.receiver.specs.declared.Port.{Port}
 use Rattle.receiver.specs.declared.Settings.{Settings}
-use Rattle.receiver.specs.Settings.{portOf, withPort, portGood, settingsGood, countsOf}
-use Rattle.receiver.specs.Command.{Outcome, refuses, replies, namedPort, afterPort, afterDatum, afterMasks, portTold, datumTold, masksTold, codeTold, sentenceOutcome, outcomeOf, answerOf, settingsAfter, outputAfter, Does}
-use Rattle.claims.proofs.Writing as Writing
+use Rattle.receiver.specs.Settings.{portOf, withPort, settingsGood, countsOf}
+use Rattle.receiver.specs.Command.{Outcome, refuses, replies, namedPort, afterPort, afterDatum, afterMasks, portTold, sentenceOutcome, answerOf, settingsAfter, outputAfter, Does}
 
 -- A refused command leaves the settings and every byte of the output; so 8 is decided before anything changes.
 refused-settings : (s : Settings) (o : Outcome) (room : ℕ) → (answerOf o room .no ≡ 0 → ⊥) → settingsAfter s o room ≡ s
@@ -107,9 +96,6 @@ same-with (suc n) s p = record { other = suc-other; datum = refl; zone = refl; g
 pub only-the-named-port : (s : Settings) (p : ℕ) (r : PortAsked) (room : ℕ) → SameButPort (namedPort p r) s (settingsAfter s (sentenceOutcome s p (S.Pr r)) room)
 only-the-named-port s p r room = go (eqb (writtenOf (faultAt (pirpaWrong (portTold (afterPort s p r) (namedPort p r)))) (pirpaBody (portTold (afterPort s p r) (namedPort p r))) room .no) 0) (r .rate .there)
   where
-    set : Settings
-    set = withPort s (namedPort p r) (record { rate = r .rate .value; protocol = r .protocol .value; mask = r .mask .value })
-
     go : (b there : Bool) → SameButPort (namedPort p r) s (pick b (pick there (withPort s (namedPort p r) (record { rate = r .rate .value; protocol = r .protocol .value; mask = r .mask .value })) s) s)
     go true true = same-with (namedPort p r) s (record { rate = r .rate .value; protocol = r .protocol .value; mask = r .mask .value })
     go true false = same-all (namedPort p r) s

@@ -4,12 +4,11 @@ use Prim.Native.Nat.{ℕ, zero, suc}
 use mathlib.Core.Path.{_≡_, refl, sym, ap, subst, _∙_}
 use mathlib.Core.List.{List}
 use mathlib.Core.Bool.{Bool, true, false, _&&_}
-use native.Mathlib.Omega.{arith}
 use lib.Dec.{eqb, ltb}
 use lib.ListN.{length, take}
-use borrow.Author.Tests.{eq-eqb, eqb-true, eqb-false}
-use Rattle.digits.proofs.Bools.{and-left, and-right, and-both}
-use Rattle.ranges.specs.Ranges.{outside, portWrong, signedWrong}
+use borrow.Author.Tests.{eq-eqb, eqb-true}
+use Rattle.digits.proofs.Bools.{and-left, and-right}
+use Rattle.ranges.specs.Ranges.{outside, signedWrong}
 use Rattle.records.specs.declared.DatumAsked.{DatumAsked}
 use Rattle.records.specs.declared.MasksAsked.{MasksAsked}
 use Rattle.records.specs.declared.PortAsked.{PortAsked}
@@ -18,17 +17,16 @@ use Rattle.records.specs.declared.Sentence.the-variants as S
 use Rattle.records.specs.Blank.{aloneOf}
 use Rattle.reading.specs.Lines.{readLine}
 use Rattle.sealing.specs.declared.Written.{Written}
-use Rattle.sealing.specs.Written.{pick, faultAt, writtenOf, leftOf, Writes}
+use Rattle.sealing.specs.Written.{pick, writtenOf, Writes}
 use Rattle.trips.proofs.Known.{all-zero}
-use Rattle.writecom.specs.Pirea.{pireaWrong, pireaBody}
-use Rattle.writecom.specs.Pirpa.{pirpaWrong, pirpaBody}
-use Rattle.writecom.specs.Pirsa.{pirsaWrong, pirsaBody}
-use Rattle.writecom.specs.Pirta.{pirtaWrong, pirtaBody}
+use Rattle.writecom.specs.Pirpa.{pirpaWrong}
+use Rattle.writecom.specs.Pirsa.{pirsaWrong}
+use Rattle.writecom.specs.Pirta.{pirtaWrong}
 use Rattle.receiver.specs.declared.Done.{Done}
 use Rattle.receiver.specs.declared.Port.{Port}
 use Rattle.receiver.specs.declared.Settings.{Settings}
 use Rattle.receiver.specs.Settings.{portOf, withPort, portGood, settingsGood}
-use Rattle.receiver.specs.Command.{Outcome, refuses, replies, namedPort, afterPort, afterDatum, afterMasks, portTold, datumTold, masksTold, codeTold, sentenceOutcome, outcomeOf, answerOf, settingsAfter, Does}
+use Rattle.receiver.specs.Command.{refuses, replies, namedPort, afterPort, afterDatum, afterMasks, portTold, datumTold, masksTold, codeTold, sentenceOutcome, outcomeOf, settingsAfter, Does}
 use Rattle.claims.proofs.Writing as Writing
 
 -- A command that replies, and answers a length.
