@@ -10,3 +10,4 @@ pub mod DeterminedWriting
 pub mod Skies
 pub mod Commands
 pub mod Replies
+pub mod Faultless
