@@ -83,7 +83,7 @@ pub fn agree(groups: &[Vec<u8>]) {
         let at = r.below(g.len() as u64) as usize;
         hurt[at] ^= 1 << r.below(7);
         let last = g[..g.len() - 1].iter().rposition(|&b| b == b'\n').map_or(0, |i| i + 1);
-        for s in [&g[..], &hurt[..], &g[..last], &[g, g].concat()[..]] {
+        for s in [&g[..], &hurt[..], &g[..last], &[&g[..], &g[..]].concat()[..]] {
             assert_eq!(rattle::sky_sum(s), sum(s), "group {:?}", String::from_utf8_lossy(s));
             whole += usize::from(sum(s) < 1_000_000);
         }
