@@ -39,10 +39,10 @@ def answers(rows):
     return ours
 
 
-def agreed(rows):
-    """What both programs answer to the rows, once every answer is seen to be the same."""
-    ours = answers(rows)
-    theirs = second("write", b"".join(row + b"\n" for row in rows)).splitlines()
+def agreed(rows, mode="write", word=b""):
+    """What both programs answer to the rows, once every answer is seen to be the same; the scribe knows a mode by its word."""
+    ours = answers([word + row for row in rows])
+    theirs = second(mode, b"".join(row + b"\n" for row in rows)).splitlines()
     for row, left, right in zip(rows, ours, theirs, strict=True):
         assert left == right, (row, left, right)
     return ours
@@ -95,10 +95,14 @@ def test_every_room():
     assert agreed(asked) == expected
 
 
+def line_of(body):
+    """The line around a body."""
+    return b"$%s*%02X\r\n" % (body, functools.reduce(operator.xor, body))
+
+
 def written(body):
     """The answer `ok` with the line around a body."""
-    line = b"$%s*%02X\r\n" % (body, functools.reduce(operator.xor, body))
-    return b"ok " + line.hex().encode()
+    return b"ok " + line_of(body).hex().encode()
 
 
 def test_rows_that_are_none():

@@ -1,4 +1,4 @@
-// What the scribe prints for a row: the line that the writer of its kind makes of the record, or the refusal.
+// What the scribe prints for a row of a line: the line that the writer of its kind makes of the record, or the refusal.
 use address::Address;
 use address::Kind;
 use address::Pir;
@@ -69,7 +69,7 @@ fn put_hex(out: &mut [u8], at: usize, s: &[u8]) -> usize {
     place
 }
 
-fn put_refusal(out: &mut [u8], at: usize, w: Written) -> usize {
+pub fn put_refusal(out: &mut [u8], at: usize, w: Written) -> usize {
     let a1 = text::put_bytes(out, at, b"refused ");
     let a2 = text::put_number(out, a1, w.no as u64);
     let a3 = text::put_bytes(out, a2, b" ");
@@ -91,7 +91,7 @@ fn put_line(out: &mut [u8], at: usize, line: &[u8], length: usize) -> usize {
 }
 
 // Puts what a writer answered that was lent the first bytes of `line`.
-fn put_written(out: &mut [u8], at: usize, line: &[u8], w: Written) -> usize {
+pub fn put_written(out: &mut [u8], at: usize, line: &[u8], w: Written) -> usize {
     if w.no == 0 {
         return put_line(out, at, line, w.length);
     }
@@ -115,7 +115,7 @@ fn put_answer(out: &mut [u8], at: usize, a: Address, n: &[u64; 40]) -> usize {
 }
 
 // Puts what a row is answered with; `no row` where it is none.
-fn put_reply(out: &mut [u8], at: usize, row: &[u8]) -> usize {
+pub fn put_reply(out: &mut [u8], at: usize, row: &[u8]) -> usize {
     let mut n = [0u64; 40];
     let count = rowin::take_numbers(row, 5, &mut n);
     let a = rowin::address_of(row);
@@ -123,10 +123,4 @@ fn put_reply(out: &mut [u8], at: usize, row: &[u8]) -> usize {
         return text::put_bytes(out, at, b"no row");
     }
     put_answer(out, at, a, &n)
-}
-
-// Puts the answer to a row, ended by LF.
-pub fn put_row(out: &mut [u8], at: usize, row: &[u8]) -> usize {
-    let a1 = put_reply(out, at, row);
-    text::put_bytes(out, a1, b"\n")
 }

@@ -46,6 +46,14 @@ use Rattle.writenav.specs.Gga.{ggaBody, ggaWrong}
 use Rattle.claims.proofs.Rewriting as Rewriting
 use Rattle.claims.proofs.Writing as Writing
 use Rattle.claims.proofs.Skies as Skies
+use Rattle.receiver.specs.declared.Done.{Done}
+use Rattle.receiver.specs.declared.Settings.{Settings}
+use Rattle.receiver.specs.Settings.{settingsGood}
+use Rattle.receiver.specs.Command.{Outcome, namedPort, portTold, sentenceOutcome, outcomeOf, settingsAfter, Does}
+use Rattle.records.specs.declared.PortAsked.{PortAsked}
+use Rattle.claims.proofs.Commands as Commands
+use Rattle.claims.proofs.Replies as Replies
+use Rattle.claims.proofs.Rows as Rows
 use Rattle.claims.proofs.Rows.{rows, AllHold, rows-hold}
 
 -- What the line rule accepts is `$`, a body of 1 to 76 allowed bytes, `*`, the two digits of its XOR, CR, LF ..
@@ -175,6 +183,29 @@ gga-back = Writing.gga-back
 -- What was read can be written: of every kind, it is in range, and its line fits.
 pub read-can-be-written : (l : List ℕ) → Rewriting.CanBeWritten (readLine l)
 read-can-be-written = Writing.read-can-be-written
+
+-- A refused command leaves the settings and every byte of the output ..
+pub command-refusal-leaves-settings : {s : Settings} {o : Outcome} {out : List ℕ} {d : Done} {left : List ℕ} → Does s o out d left
+    → (d .written .no ≡ 0 → ⊥) → d .settings ≡ s
+command-refusal-leaves-settings = Commands.refused-leaves-settings
+
+pub command-refusal-leaves-output : {s : Settings} {o : Outcome} {out : List ℕ} {d : Done} {left : List ℕ} → Does s o out d left
+    → (d .written .no ≡ 0 → ⊥) → left ≡ out
+command-refusal-leaves-output = Commands.refused-leaves-output
+
+-- .. settings in range stay in range, whatever the line ..
+pub settings-stay-in-range : (s : Settings) (p : ℕ) (l : List ℕ) {out : List ℕ} {d : Done} {left : List ℕ} → Does s (outcomeOf s p l) out d left
+    → settingsGood s ≡ true → settingsGood (d .settings) ≡ true
+settings-stay-in-range = Replies.settings-stay-in-range
+
+-- .. and the reply reads back as the record of the values after the command: here PIRPA; file Replies has it for each of the four.
+pub port-reply : (s : Settings) (p : ℕ) {out : List ℕ} {d : Done} {left : List ℕ} (r : PortAsked) → Does s (sentenceOutcome s p (S.Pr r)) out d left
+    → d .written .no ≡ 0 → readLine (take (d .written .length) left) ≡ aloneOf (S.Pa (portTold (d .settings) (namedPort p r)))
+port-reply = Replies.port-reply
+
+-- A step that replies and alters nothing is not the step.
+pub step-alters : ((s : Settings) (p : ℕ) (l : List ℕ) (room : ℕ) → settingsAfter s (outcomeOf s p l) room ≡ s) → ⊥
+step-alters = Rows.step-alters
 
 -- The worked rows hold of the definitions.
 pub worked-rows : AllHold rows

@@ -8,3 +8,6 @@ pub mod Writing
 pub mod Lengths
 pub mod DeterminedWriting
 pub mod Skies
+pub mod Commands
+pub mod Replies
+pub mod Faultless

@@ -1,16 +1,18 @@
 -- The worked rows that are marked P, as a single list with one claim over it: each row is an equation that is computed.
-use Prim.Native.Nat.{ℕ}
+use Prim.Native.Nat.{ℕ, zero, suc, _+_, _-_, _/_, _%_, _^_}
 use Prim.Native.String.{String}
-use mathlib.Core.Path.{_≡_, refl}
+use mathlib.Core.Path.{_≡_, refl, ap, _∙_}
 use mathlib.Core.List.{List, [], _∷_}
 use mathlib.Core.Bool.{true}
 use mathlib.Core.Option.{some, bind}
+use native.Mathlib.Omega.{arith}
 use lib.IntN.{pos, negℤ}
+use lib.Count.{ones, onesIn, ones-step}
 use Rattle.digits.specs.Ascii.{ascii}
 use Rattle.digits.specs.Decimal.{isDigit, digitsFrom, digitsOf}
-use Rattle.digits.specs.Hex.{hexDigit, hexOf}
+use Rattle.digits.specs.Hex.{hexDigit, hexOf, hexValue}
 use Rattle.digits.specs.Same.{same}
-use Rattle.line.specs.Line.{noneOf, bodyByte, bodyBytes, xorFrom, xorOf, endForm, lineForm, endGives, lineRefusal}
+use Rattle.line.specs.Line.{noneOf, bodyByte, bodyBytes, xorFrom, xorOf, endForm, lineForm, endGives, lineRefusal, asLine}
 use Rattle.forms.specs.declared.got.GotInt.{GotInt}
 use Rattle.forms.specs.Got.{gotIntOf, withinOf}
 use Rattle.forms.specs.Angle.{joinedOf, angleOf, latitudeOf, longitudeOf, wrongInt, letteredOf, sidedOf}
@@ -21,12 +23,21 @@ use Rattle.calendar.specs.Dates.{noDate, theDate, dateAt, fullYear, dateSix}
 use Rattle.calendar.specs.Zone.{minus, bareOf, zoneOf, wrongZone, zoneAt, zoneTwo}
 use Rattle.address.specs.declared.Talker.the-variants.{Gp}
 use Rattle.address.specs.Address.{lookUp, knownOf, commaFree, addressOf}
-use Rattle.fields.specs.Fields.{onto, fieldsOf}
+use Rattle.fields.specs.Fields.{onto, fieldsOf, joinFields}
 use Rattle.forms.specs.Fixed.{fixedOf}
 use Rattle.forms.specs.Got.{maybeOf}
 use Rattle.lines.specs.Cut.{before, cutRest, cutLines}
 use Rattle.lines.specs.Reader.{readFrom, readLines}
-use Rattle.records.specs.Answers.{answeredBeside}
+use Rattle.masks.specs.Masks.{hexFrom, hexDigitsOf, printHex, satellitesOf, satellitesForm, isPortMask}
+use Rattle.forms.specs.Letters.{emptyWrong}
+use Rattle.ranges.specs.Ranges.{outside, rangeWrong, signedWrong, portWrong}
+use Rattle.commands.specs.Pirsr.{pirsrFrom, pirsrOf}
+use Rattle.sealing.specs.Written.{faultAt, writtenOf}
+use Rattle.writecom.specs.Pirsa.{pirsaWrong, pirsaFields}
+use Rattle.receiver.specs.declared.Settings.{Settings}
+use Rattle.receiver.specs.Settings.{atStart, portGood, settingsGood}
+use Rattle.receiver.specs.Command.{Outcome, refuses, replies, outcomeOf, settingsAfter}
+use Rattle.records.specs.Answers.{answered, counted, answeredBeside}
 use Rattle.records.specs.Blank.{noMaybe}
 use Rattle.records.specs.Wrong.{nearOf, firstWrong}
 use Rattle.satellites.specs.View.{firstOf, entryAt, entryFrom, entryForm, entriesOf, gsvFrom, gsvWith, gsvOf}
@@ -46,6 +57,12 @@ pub data Row : Type 0 where
   date : String → GotDate → Row
   -- these bytes, as a group, come to this
   group : String → Answer → Row
+  -- this command, to a receiver at start by port 0, is answered with this line
+  reply : String → String → Row
+  -- and leaves masks that allow so many satellites
+  allows : String → ℕ → ℕ → Row
+  -- of which this one is not one, counted from 1
+  without : String → ℕ → Row
 
 pub rows : List Row
 rows =
@@ -73,10 +90,26 @@ rows =
     -- P9: 2000 was a leap year, 2023 was not
     ∷ date "290200" (theDate 29 2 2000)
     ∷ date "290223" (noDate 1)
+    -- P10: satellite 17 is off
+    ∷ reply "$PIRSR,7FFEFFFF,FFFFFE,*17\r\n" "$PIRSA,7FFEFFFF,FFFFFE,*04\r\n"
+    ∷ allows "$PIRSR,7FFEFFFF,FFFFFE,*17\r\n" 30 23
+    ∷ without "$PIRSR,7FFEFFFF,FFFFFE,*17\r\n" 17
     -- P11: no bytes
     ∷ line "" 1
     ∷ group "" (refused 1 1 0)
     ∷ []
+
+-- What a receiver at start makes of a command.
+abbrev pub toldBy : Outcome → List ℕ
+toldBy (refuses n k f) = []
+toldBy (replies after fault body) = asLine body
+
+abbrev pub leftBy : Outcome → Settings
+leftBy (refuses n k f) = atStart
+leftBy (replies after fault body) = after
+
+unfoldable pub commanded : String → Outcome
+commanded text = outcomeOf atStart 0 (ascii text)
 
 abbrev pub Holds : Row → Type 0
 Holds (line text n) = lineRefusal (ascii text) ≡ n
@@ -85,11 +118,30 @@ Holds (longitude f u r) = sidedOf (ascii "E") (ascii "W") (ascii f) (ascii u) (l
 Holds (zone h m r) = zoneTwo (ascii h) (ascii m) ≡ r
 Holds (date f r) = dateSix (ascii f) ≡ r
 Holds (group text a) = groupOf (ascii text) ≡ a
+Holds (reply text answer) = toldBy (commanded text) ≡ ascii answer
+Holds (allows text gps glonass) = (ones (leftBy (commanded text) .gps) ≡ gps) × (ones (leftBy (commanded text) .glonass) ≡ glonass)
+Holds (without text k) = leftBy (commanded text) .gps / 2 ^ (k - 1) % 2 ≡ 0
 
 abbrev pub AllHold : List Row → Type 0
 AllHold [] = Unit {0}
 AllHold (r ∷ rs) = Holds r × AllHold rs
 
+-- The ones of a number, digit by digit from the lowest.
+abbrev onesBy : ℕ → ℕ → ℕ
+onesBy zero n = ones n
+onesBy (suc k) n = n % 2 + onesBy k (n / 2)
+
+ones-by : (k n : ℕ) → ones n ≡ onesBy k n
+ones-by zero n = refl
+ones-by (suc k) n = ones-step n ∙ ap (λ (x : ℕ). n % 2 + x) (ones-by k (n / 2))
+
 pub rows-hold : AllHold rows
-unfolding rows same hexDigit hexOf noneOf bodyByte bodyBytes xorFrom xorOf endForm lineForm endGives lineRefusal isDigit digitsFrom digitsOf withinOf joinedOf angleOf latitudeOf longitudeOf letteredOf sidedOf pairAt leapYear daysIn isDate dateAt fullYear dateSix minus bareOf zoneOf zoneAt zoneTwo bind lookUp knownOf commaFree addressOf onto fieldsOf fixedOf maybeOf before cutRest cutLines readFrom readLines answeredBeside nearOf firstWrong firstOf entryAt entryFrom entryForm entriesOf gsvFrom gsvWith gsvOf readBody readLine linesFor entriesAt sameTalker inPlace follows numbered repeats gsvRule rule ended groupOf
-rows-hold = (refl, (refl, (refl, (refl, (refl, (refl, (refl, (refl, (refl, (refl, (refl, (refl, (refl, (refl, (refl, (refl, (refl, tt)))))))))))))))))
+unfolding rows same hexDigit hexOf noneOf bodyByte bodyBytes xorFrom xorOf endForm lineForm endGives lineRefusal isDigit digitsFrom digitsOf withinOf joinedOf angleOf latitudeOf longitudeOf letteredOf sidedOf pairAt leapYear daysIn isDate dateAt fullYear dateSix minus bareOf zoneOf zoneAt zoneTwo bind lookUp knownOf commaFree addressOf onto fieldsOf fixedOf maybeOf before cutRest cutLines readFrom readLines answeredBeside nearOf firstWrong firstOf entryAt entryFrom entryForm entriesOf gsvFrom gsvWith gsvOf readBody readLine linesFor entriesAt sameTalker inPlace follows numbered repeats gsvRule rule ended groupOf joinFields hexFrom hexDigitsOf printHex satellitesOf satellitesForm isPortMask emptyWrong outside rangeWrong signedWrong portWrong pirsrFrom pirsrOf pirsaFields portGood settingsGood outcomeOf answered counted hexValue ones onesIn commanded
+rows-hold = (refl, (refl, (refl, (refl, (refl, (refl, (refl, (refl, (refl, (refl, (refl, (refl, (refl, (refl, (refl, (refl, ((ones-by 32 2147418111, ones-by 24 16777214), (refl, (refl, (refl, tt))))))))))))))))))))
+
+-- A step that replies and alters nothing is not the step: row P10 leaves another mask than the one at start.
+pub step-alters : ((s : Settings) (p : ℕ) (l : List ℕ) (room : ℕ) → settingsAfter s (outcomeOf s p l) room ≡ s) → ⊥
+unfolding same hexDigit hexOf hexValue noneOf bodyByte bodyBytes xorFrom xorOf endForm lineForm endGives lineRefusal lookUp knownOf commaFree addressOf onto fieldsOf maybeOf nearOf firstWrong readBody readLine joinFields hexFrom hexDigitsOf printHex satellitesOf satellitesForm isPortMask emptyWrong outside rangeWrong signedWrong portWrong pirsrFrom pirsrOf pirsaFields pirsaWrong portGood settingsGood outcomeOf answered counted faultAt writtenOf
+step-alters h =
+    let e : _≡_ {A = ℕ} 2147418111 4294967295 = ap (λ (s : Settings). s .gps) (h atStart 0 (ascii "$PIRSR,7FFEFFFF,FFFFFE,*17\r\n") 82) in
+    omega (arith, e)

@@ -17,7 +17,7 @@ use Rattle.sky.specs.declared.Sky.{Sky}
 use Rattle.sky.specs.declared.Table.{Table}
 use Rattle.sky.specs.Group as Group
 use Rattle.sky.specs.Sky.{tableOf, skyOf}
-use Rattle.sky.specs.Table.{orElse, tableFault, groupText, writtenGroup, leftGroup, WritesGroup}
+use Rattle.sky.specs.Table.{orElse, allBlank, tableFault, groupText, writtenGroup, leftGroup, WritesGroup}
 use Rattle.tripssky.proofs.ReadWrite as ReadWrite
 use Rattle.tripssky.proofs.WriteRead as WriteRead
 
@@ -90,3 +90,9 @@ read-group s a b p q = p ∙ sym q
 
 pub write-group : (t : Talker) (r : Table) (out : List ℕ) (a b : Written) (l m : List ℕ) → WritesGroup t r out a l → WritesGroup t r out b m → (a ≡ b) × (l ≡ m)
 write-group t r out a b l m v w = (v .answers ∙ sym (w .answers), v .leaves ∙ sym (w .leaves))
+
+pub table-fault : (r : Table) (a b : Written) → a ≡ tableFault r → b ≡ tableFault r → a ≡ b
+table-fault r a b p q = p ∙ sym q
+
+pub table-rest : (r : Table) (a b : Bool) → a ≡ allBlank (drop (r .count) (r .entries)) → b ≡ allBlank (drop (r .count) (r .entries)) → a ≡ b
+table-rest r a b p q = p ∙ sym q

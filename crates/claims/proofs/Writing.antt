@@ -112,7 +112,7 @@ module _ {fault : Written} {body out : List ℕ} {answer : Written} {left : List
 short : (body : List ℕ) → length (asLine body) ≤ 82 → length body ≤ 76
 short body h = omega (arith, line-length body, h)
 
-fault-zero : (w : ℕ) → faultAt w .no ≡ 0 → w ≡ 0
+pub fault-zero : (w : ℕ) → faultAt w .no ≡ 0 → w ≡ 0
 unfolding faultAt
 fault-zero w e = go (eqb w 0) refl e
   where

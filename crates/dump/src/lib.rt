@@ -157,7 +157,7 @@ fn put_gsa(out: &mut [u8], at: usize, r: Gsa) -> usize {
     value::put_number(out, a2, vdop)
 }
 
-fn put_entry(out: &mut [u8], at: usize, e: Entry) -> usize {
+pub fn put_entry(out: &mut [u8], at: usize, e: Entry) -> usize {
     let elevation = e.elevation;
     let azimuth = e.azimuth;
     let signal = e.signal;

@@ -25,23 +25,23 @@ pub fn until(s: &[u8], at: usize, b: u8) -> usize
     i
 }
 
-// Takes the numbers of `row` from `from` on, each behind a blank, and answers how many there are; 41 where
-// there are over 40, or where a word is no number.
-pub fn take_numbers(row: &[u8], from: usize, n: &mut [u64; 40]) -> usize {
+// Takes the numbers of `row` from `from` on, each behind a blank, and answers how many there are; usize::MAX where `n`
+// has too few places for them, or where a word is no number.
+pub fn take_numbers(row: &[u8], from: usize, n: &mut [u64]) -> usize {
     let mut at = from;
     let mut count: usize = 0;
     while at < row.len() {
-        if 40 <= count {
-            return 41;
+        if n.len() <= count {
+            return usize::MAX;
         }
         if row[at] != b' ' {
-            return 41;
+            return usize::MAX;
         }
         let start = at + 1;
         let end = until(row, start, b' ');
         let v = number::number_of(&row[start..end]);
         if v == u64::MAX {
-            return 41;
+            return usize::MAX;
         }
         n[count] = v;
         count += 1;

@@ -69,8 +69,8 @@ pub fn gsa(n: &[u64; 40]) -> Gsa {
     }
 }
 
-// The satellite of a GSV whose numbers begin at the four places.
-fn entry(n: &[u64; 40], number: u8, elevation: u8, azimuth: u8, signal: u8) -> Entry {
+// The satellite whose numbers begin at the four places.
+pub fn entry(n: &[u64; 40], number: u8, elevation: u8, azimuth: u8, signal: u8) -> Entry {
     Entry {
         number: value::plain(n, number),
         elevation: value::maybe(n, elevation),

@@ -1,5 +1,5 @@
-// The lines of records: standard input of any length, each row an address, the room and the numbers of a record; and
-// for each row an answer.
+// Lines and groups, written and read: standard input of any length, each row a record, a table or the bytes of a group;
+// and for each row an answer.
 use libc::STDIN_FILENO;
 use libc::STDOUT_FILENO;
 
@@ -8,7 +8,7 @@ fn is_full(out: &[u8], place: usize) -> bool {
     if out.len() <= place {
         return true;
     }
-    out.len() - place < 1024
+    out.len() - place < 2048
 }
 
 // What answering some rows leaves: where the bytes to keep begin, and whether all could be written.
@@ -28,7 +28,7 @@ fn answer_rows(s: &[u8], out: &mut [u8]) -> Answered {
             written = written & turns::flush(STDOUT_FILENO, out, place);
             return Answered { from: at, written };
         }
-        place = answers::put_row(out, place, &s[at..end]);
+        place = skyrows::put_row(out, place, &s[at..end]);
         if is_full(out, place) {
             written = written & turns::flush(STDOUT_FILENO, out, place);
             place = 0;

@@ -53,7 +53,7 @@ fn used_fault(seen: &mut [u8], r: Table) -> Written
 }
 
 // Whether each place that is not used is blank.
-fn rest_blank(r: Table) -> bool
+pub fn rest_blank(r: Table) -> bool
     ensures { λ b. ⌜ b ≡ allBlank (drop (r .count) (r .entries)) ⌝ }
 {
     let mut i = r.count;

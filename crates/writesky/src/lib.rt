@@ -1,5 +1,5 @@
 // A table of satellites written as a group: as many GSV lines as it takes, each with up to four of them.
-mod faults;
+pub mod faults;
 mod sizes;
 
 use address::Talker;

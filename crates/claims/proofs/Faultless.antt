@@ -1,0 +1,155 @@
+-- From a line the reply never has a fault: what was read is in range, and so are the settings, so what a reply tells is. After 1 to 5 and 9
+-- only 8 can follow.
+use Prim.Native.Nat.{ℕ, zero, suc, _<_}
+use mathlib.Core.Path.{_≡_, refl, sym, ap, _∙_}
+use mathlib.Core.List.{List}
+use mathlib.Core.Bool.{Bool, true, false, _&&_, cond}
+use native.Mathlib.Omega.{arith}
+use lib.Dec.{eqb, ltb}
+use borrow.Author.Tests.{ltb-true, eqb-true}
+use Rattle.digits.proofs.Bools.{and-left, and-right}
+use Rattle.ranges.specs.Ranges.{outside, rangeWrong, signedWrong, portWrong, alikeWrong}
+use Rattle.records.specs.declared.DatumAsked.{DatumAsked}
+use Rattle.records.specs.declared.Gsa.{Gsa}
+use Rattle.records.specs.declared.Gsv.{Gsv}
+use Rattle.records.specs.declared.MasksAsked.{MasksAsked}
+use Rattle.records.specs.declared.PortAsked.{PortAsked}
+use Rattle.records.specs.declared.Sentence.{Sentence}
+use Rattle.records.specs.declared.Sentence.the-variants as S
+use Rattle.reading.specs.Lines.{readLine}
+use Rattle.sealing.specs.Written.{pick, faultAt}
+use Rattle.trips.proofs.Known.{all-zero, zero-all}
+use Rattle.trips.proofs.Ranged.{in-outside}
+use Rattle.writecom.specs.Pirea.{pireaWrong}
+use Rattle.writecom.specs.Pirpa.{pirpaWrong}
+use Rattle.writecom.specs.Pirpr.{pirprWrong}
+use Rattle.writecom.specs.Pirsa.{pirsaWrong}
+use Rattle.writecom.specs.Pirsr.{pirsrWrong}
+use Rattle.writecom.specs.Pirta.{pirtaWrong}
+use Rattle.writecom.specs.Pirtr.{pirtrWrong}
+use Rattle.receiver.specs.declared.Port.{Port}
+use Rattle.receiver.specs.declared.Settings.{Settings}
+use Rattle.receiver.specs.Settings.{portOf, withPort, portGood, settingsGood}
+use Rattle.receiver.specs.Command.{Outcome, refuses, replies, namedPort, afterPort, afterDatum, afterMasks, portTold, datumTold, masksTold, codeTold, sentenceOutcome, outcomeOf}
+use Rattle.claims.proofs.Replies.{InRange, in-range}
+use Rattle.claims.proofs.Rewriting.{Writable}
+use Rattle.claims.proofs.Writing as Writing
+
+-- A refusal, or a reply without a fault.
+abbrev pub Faultless : Outcome → Type 0
+Faultless (refuses n k f) = Unit {0}
+Faultless (replies after fault body) = fault .no ≡ 0
+
+zero-fault : (w : ℕ) → w ≡ 0 → faultAt w .no ≡ 0
+unfolding faultAt
+zero-fault w e = rw e
+
+-- A value that is there exactly where another is.
+alike : (a b : Bool) (w : ℕ) → alikeWrong a b w ≡ 0 → (a ≡ b) × (w ≡ 0)
+unfolding alikeWrong
+alike true true w e = (refl, e)
+alike false false w e = (refl, e)
+alike true false w e = let z : ⊥ = omega (arith, e) in absurd z
+alike false true w e = let z : ⊥ = omega (arith, e) in absurd z
+
+named-in : (p : ℕ) (r : PortAsked) → p < 2 → rangeWrong 0 1 (r .port .there) (r .port .value) ≡ 0 → outside 0 1 (namedPort p r) ≡ 0
+unfolding rangeWrong
+named-in p r h e = go (r .port .there) e
+  where
+    go : (b : Bool) → rangeWrong 0 1 b (r .port .value) ≡ 0 → outside 0 1 (cond b (r .port .value) p) ≡ 0
+    go true i = i
+    go false i = in-outside 0 1 p (omega arith) (omega (arith, h))
+
+-- What PIRPA tells of a port in range, and of one that was just set.
+told-of : (s : Settings) (n : ℕ) → InRange s → portGood (portOf s n) ≡ true
+told-of s zero g = g .first
+told-of s (suc n) g = g .second
+
+port-good : (n : ℕ) (q : Port) → outside 0 1 n ≡ 0 → portGood q ≡ true → pirpaWrong (record { port = n; rate = q .rate; protocol = q .protocol; mask = q .mask }) ≡ 0
+unfolding pirpaWrong portGood
+port-good n q e g =
+    let g1 = and-right (eqb (outside 1200 115200 (q .rate)) 0) _ g in
+    zero-all _ (e, (eqb-true (outside 1200 115200 (q .rate)) 0 (and-left _ _ g), (eqb-true (outside 0 4 (q .protocol)) 0 (and-left _ _ g1), (eqb-true (portWrong true (q .mask)) 0 (and-right (eqb (outside 0 4 (q .protocol)) 0) _ g1), tt))))
+
+abbrev asked : PortAsked → Port
+asked r = record { rate = r .rate .value; protocol = r .protocol .value; mask = r .mask .value }
+
+asked-good : (r : PortAsked) → pirprWrong r ≡ 0 → r .rate .there ≡ true → portGood (asked r) ≡ true
+unfolding pirprWrong portGood rangeWrong
+asked-good r e t =
+    let z = all-zero _ e in
+    let a = alike (r .rate .there) (r .protocol .there) (rangeWrong 0 4 (r .protocol .there) (r .protocol .value)) (z .1 .1 .0) in
+    let b = alike (r .rate .there) (r .mask .there) (portWrong (r .mask .there) (r .mask .value)) (z .1 .1 .1 .0) in
+    let rate : outside 1200 115200 (r .rate .value) ≡ 0 = sym (ap (λ (x : Bool). rangeWrong 1200 115200 x (r .rate .value)) t) ∙ z .1 .0 in
+    let protocol : outside 0 4 (r .protocol .value) ≡ 0 = sym (ap (λ (x : Bool). rangeWrong 0 4 x (r .protocol .value)) (sym (a .0) ∙ t)) ∙ a .1 in
+    let mask : portWrong true (r .mask .value) ≡ 0 = sym (ap (λ (x : Bool). portWrong x (r .mask .value)) (sym (b .0) ∙ t)) ∙ b .1 in
+    rw (rate, protocol, mask)
+
+port-told : (n : ℕ) (s : Settings) (q : Port) → portOf (withPort s n q) n ≡ q
+port-told zero s q = refl
+port-told (suc n) s q = refl
+
+port-faultless : (s : Settings) (p : ℕ) (r : PortAsked) → InRange s → p < 2 → pirprWrong r ≡ 0 → pirpaWrong (portTold (afterPort s p r) (namedPort p r)) ≡ 0
+unfolding pirprWrong
+port-faultless s p r g h e = port-good (namedPort p r) (portOf (afterPort s p r) (namedPort p r)) (named-in p r h (all-zero _ e .0)) (go (r .rate .there) refl)
+  where
+    go : (b : Bool) → r .rate .there ≡ b → portGood (portOf (pick b (withPort s (namedPort p r) (asked r)) s) (namedPort p r)) ≡ true
+    go true t = ap portGood (port-told (namedPort p r) s (asked r)) ∙ asked-good r e t
+    go false t = told-of s (namedPort p r) g
+
+datum-faultless : (s : Settings) (r : DatumAsked) → InRange s → pirtrWrong r ≡ 0 → pirtaWrong (datumTold (afterDatum s r)) ≡ 0
+unfolding pirtrWrong pirtaWrong rangeWrong
+datum-faultless s r g e = go (r .datum .there) refl
+  where
+    go : (b : Bool) → r .datum .there ≡ b
+        → pirtaWrong (datumTold (pick b (record { first = s .first; second = s .second; datum = r .datum .value; zone = r .zone .minutes; gps = s .gps; glonass = s .glonass; code = s .code }) s)) ≡ 0
+    go true t =
+        let z = all-zero _ e in
+        let a = alike (r .datum .there) (r .zone .there) (signedWrong 839 (r .zone .there) (r .zone .minutes)) (z .1 .0) in
+        zero-all _ (sym (ap (λ (x : Bool). rangeWrong 0 4 x (r .datum .value)) t) ∙ z .0, (sym (ap (λ (x : Bool). signedWrong 839 x (r .zone .minutes)) (sym (a .0) ∙ t)) ∙ a .1, tt))
+    go false t = zero-all _ (g .datum, (g .zone, tt))
+
+mask-in : (hi : ℕ) (there : Bool) (v old : ℕ) → rangeWrong 0 hi there v ≡ 0 → outside 0 hi old ≡ 0 → outside 0 hi (cond there v old) ≡ 0
+unfolding rangeWrong
+mask-in hi true v old e f = e
+mask-in hi false v old e f = f
+
+masks-faultless : (s : Settings) (r : MasksAsked) → InRange s → pirsrWrong r ≡ 0 → pirsaWrong (masksTold (afterMasks s r)) ≡ 0
+unfolding pirsrWrong pirsaWrong
+masks-faultless s r g e =
+    let z = all-zero _ e in
+    zero-all _ (mask-in 4294967295 (r .gps .there) (r .gps .value) (s .gps) (z .0) (g .gps), (mask-in 16777215 (r .glonass .there) (r .glonass .value) (s .glonass) (z .1 .0) (g .glonass), tt))
+
+code-faultless : (s : Settings) → InRange s → pireaWrong (codeTold s) ≡ 0
+unfolding pireaWrong
+code-faultless s g = zero-all _ (g .code, tt)
+
+sentence-faultless : (s : Settings) (p : ℕ) (x : Sentence) (a : Gsa) (v : Gsv) → InRange s → p < 2 → Writable x a v → Faultless (sentenceOutcome s p x)
+sentence-faultless s p (S.Pr r) a v g h w = zero-fault _ (port-faultless s p r g h (w .0))
+sentence-faultless s p (S.Tr r) a v g h w = zero-fault _ (datum-faultless s r g (w .0))
+sentence-faultless s p (S.Sr r) a v g h w = zero-fault _ (masks-faultless s r g (w .0))
+sentence-faultless s p S.Er a v g h w = zero-fault _ (code-faultless s g)
+sentence-faultless s p (S.Refused n f) a v g h w = tt
+sentence-faultless s p (S.Gga t r) a v g h w = tt
+sentence-faultless s p (S.Gll t r) a v g h w = tt
+sentence-faultless s p (S.Gsa t) a v g h w = tt
+sentence-faultless s p (S.Gsv t) a v g h w = tt
+sentence-faultless s p (S.Rmc t r) a v g h w = tt
+sentence-faultless s p (S.Vtg t r) a v g h w = tt
+sentence-faultless s p (S.Zda t r) a v g h w = tt
+sentence-faultless s p (S.Pa r) a v g h w = tt
+sentence-faultless s p (S.Ta r) a v g h w = tt
+sentence-faultless s p (S.Sa r) a v g h w = tt
+sentence-faultless s p (S.Ea r) a v g h w = tt
+
+-- Whatever the settings, the port and the line.
+pub replies-faultless : (s : Settings) (p : ℕ) (l : List ℕ) → Faultless (outcomeOf s p l)
+unfolding outcomeOf
+replies-faultless s p l = go (ltb p 2 && settingsGood s) (eqb (portOf s p .protocol) 4) refl
+  where
+    go : (a b : Bool) → (ltb p 2 && settingsGood s) ≡ a → Faultless (pick a (pick b (sentenceOutcome s p (readLine l .sentence)) (refuses 10 1 0)) (refuses 5 0 0))
+    go true true e =
+        let r = readLine l in
+        sentence-faultless s p (r .sentence) (r .gsa) (r .gsv) (in-range s (and-right (ltb p 2) _ e)) (ltb-true p 2 (and-left _ _ e)) (Writing.read-can-be-written l)
+    go true false e = tt
+    go false b e = tt
