@@ -3,14 +3,6 @@
 use libc::STDIN_FILENO;
 use libc::STDOUT_FILENO;
 
-// Writes what `out` holds up to `place`.
-fn flush(out: &[u8], place: usize) -> bool {
-    if place <= out.len() {
-        return io::write_all(STDOUT_FILENO, &out[0..place]);
-    }
-    false
-}
-
 // Whether the next answer may not fit into `out` from `place` on.
 fn is_full(out: &[u8], place: usize) -> bool {
     if out.len() <= place {
@@ -33,31 +25,16 @@ fn answer_rows(s: &[u8], out: &mut [u8]) -> Answered {
     loop {
         let end = rowin::until(s, at, b'\n');
         if s.len() <= end {
-            written = written & flush(out, place);
+            written = written & turns::flush(STDOUT_FILENO, out, place);
             return Answered { from: at, written };
         }
         place = skyrows::put_row(out, place, &s[at..end]);
         if is_full(out, place) {
-            written = written & flush(out, place);
+            written = written & turns::flush(STDOUT_FILENO, out, place);
             place = 0;
         }
         at = end + 1;
     }
-}
-
-// Moves the bytes of `buf` from `a` up to `e` to its start, and answers how many they are.
-fn keep(buf: &mut [u8], a: usize, e: usize) -> usize {
-    let mut i: usize = 0;
-    let mut from = a;
-    while from < e {
-        if buf.len() <= from {
-            return i;
-        }
-        buf[i] = buf[from];
-        i += 1;
-        from += 1;
-    }
-    i
 }
 
 // What one turn of reading leaves: whether to go on, and the bytes kept at the start of the buffer.
@@ -96,7 +73,7 @@ fn take_turn(buf: &mut [u8], out: &mut [u8], kept: usize) -> Turn {
     let from = answered.from;
     Turn {
         more: true,
-        kept: keep(buf, from, n),
+        kept: turns::keep(buf, from, n),
     }
 }
 

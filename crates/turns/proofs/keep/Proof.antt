@@ -3,8 +3,8 @@ use Prim.Native.Nat.{_≤_, _-_}
 use mathlib.Core.Path.{_≡_, refl}
 use native.Mathlib.Omega.{arith}
 use lib.ListN.{length, length-set}
-use Rattle.scribe.proofs.keep.Statement.{statement}
-use Rattle.scribe.proofs.keep.Tie as tie
+use Rattle.turns.proofs.keep.Statement.{statement}
+use Rattle.turns.proofs.keep.Tie as tie
 
 abbrev Inv-loop : tie.InvT-loop
 Inv-loop buf₀ a e i₀ from₀ buf i from = (i ≤ from) × (length buf ≡ length buf₀)

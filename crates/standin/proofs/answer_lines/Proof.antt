@@ -1,0 +1,48 @@
+-- `answer_lines` is safe and ends: it goes on where no line is open, at the end of each line found.
+use Prim.Native.Nat.{_≤_, _-_}
+use mathlib.Core.Path.{_≡_, refl, sym, _∙_, ap}
+use mathlib.Core.List.{[]}
+use native.Mathlib.Omega.{arith}
+use borrow.Author.Needs.{needs}
+use borrow.Author.Tests.{not-false}
+use lib.ListN.{length, take}
+use Rattle.finder.specs.declared.Found.{Found}
+use Rattle.finder.specs.Finder.{openLine, afterLast, fromLast}
+use Rattle.finder.proofs.SliceLines.{NextLine, slice-line, slice-within}
+use Rattle.standin.proofs.answer_lines.Statement.{statement}
+use Rattle.standin.proofs.answer_lines.Tie as tie
+
+abbrev Inv-loop : tie.InvT-loop
+Inv-loop s arrival settings₀ at₀ written₀ settings at written = (at ≤ length s) × (openLine (take at s) ≡ [])
+
+abbrev μ-loop : tie.MeasureT-loop
+μ-loop s arrival settings₀ at₀ written₀ settings at written = length s - at
+
+loop-holds : tie.Need-loop-holds Inv-loop μ-loop
+unfolding openLine afterLast fromLast
+loop-holds c = (omega arith, refl)
+
+-- a line that was found: it lies in `s`, and past it no line is open
+at-line : (c : tie.Else1 Inv-loop μ-loop) → NextLine (c .before .before .before .before .before .args .s .now) (c .before .before .before .loop .at) (c .before .before .next-line .result)
+at-line c =
+    let e = c .before .before .next-line .ensures in
+    rw e (slice-line _ _ (c .before .before .before .loop .inv .1) (sym (ap (λ (r : Found). r .line) e) ∙ not-false _ (c .if1 .left)))
+
+starts : (c : tie.Else1 Inv-loop μ-loop) → c .before .before .next-line .result .start ≤ c .before .before .next-line .result .end
+starts c = rw (c .before .before .next-line .ensures) (slice-within _ _ (c .before .before .before .loop .inv .0) .1)
+
+pub answer-lines-spec : {M : Type 1} → statement M
+answer-lines-spec =
+    tie.close
+    (tie.spec
+    Inv-loop
+    μ-loop
+    loop-holds
+    (λ c κs. search needs)
+    (λ c. tt)
+    (λ c. starts c)
+    (λ c. let i = starts c in search needs)
+    (λ c. let n = at-line c in let e = n .within in search needs)
+    (λ c κs. search needs)
+    (λ c. let n = at-line (c .before .before .before .before) in omega (arith, n .onward, n .within))
+    (λ c. let n = at-line (c .before .before .before .before) in (n .within, n .shut)))
