@@ -7,6 +7,7 @@ import tty
 
 from programs import ROOT, command, run
 from test_second import second
+from test_writers import line_of as line
 
 DEADLINE = 60
 START = "4800 4 127 4800 4 127 0 0 4294967295 16777215 0"
@@ -20,13 +21,6 @@ MEANINGS = {
     9: b"the sentence is not a command",
     10: b"the protocol of the port is not 4",
 }
-
-
-def line(body):
-    digits = 0
-    for byte in body:
-        digits ^= byte
-    return b"$%s*%02X\r\n" % (body, digits)
 
 
 EXCHANGE = [

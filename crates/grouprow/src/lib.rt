@@ -1,6 +1,4 @@
 // What the scribe answers to a row `group HEX`: the group that the bytes are read as. There may be none.
-mod hex;
-
 use address::Talker;
 use sky::Sky;
 use sky::Table;
@@ -73,7 +71,7 @@ fn put_sky(out: &mut [u8], at: usize, s: Sky) -> usize {
 // Puts what a row is answered with whose first word is `group`; `no row` where its bytes are none.
 pub fn put_reply(out: &mut [u8], at: usize, row: &[u8]) -> usize {
     let mut bytes = [0u8; 32768];
-    let n = hex::take_bytes(row, 6, &mut bytes);
+    let n = rowin::hex::take_bytes(row, 6, &mut bytes);
     if bytes.len() < n {
         return text::put_bytes(out, at, b"no row");
     }

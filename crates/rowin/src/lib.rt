@@ -1,4 +1,5 @@
 // A row of numbers taken apart: an address, the room, and the numbers of a record.
+pub mod hex;
 pub mod number;
 pub mod record;
 pub mod value;

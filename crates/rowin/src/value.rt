@@ -24,11 +24,11 @@ pub fn int(n: &[u64; 40], at: u8) -> i32 {
     number::signed(at_place(n, at, 0))
 }
 
-fn plain_after(n: &[u64; 40], at: u8, more: u8) -> u32 {
+pub fn plain_after(n: &[u64; 40], at: u8, more: u8) -> u32 {
     number::plain(at_place(n, at, more))
 }
 
-fn int_after(n: &[u64; 40], at: u8, more: u8) -> i32 {
+pub fn int_after(n: &[u64; 40], at: u8, more: u8) -> i32 {
     number::signed(at_place(n, at, more))
 }
 

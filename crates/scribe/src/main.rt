@@ -1,5 +1,5 @@
-// Lines and groups, written and read: standard input of any length, each row a record, a table or the bytes of a group;
-// and for each row an answer.
+// Lines and groups, written and read, and commands carried out: standard input of any length, each row a record, a table,
+// the bytes of a group, or settings with or without a command; and for each row an answer.
 use libc::STDIN_FILENO;
 use libc::STDOUT_FILENO;
 

@@ -1,5 +1,5 @@
-// What the scribe answers to a row: `group` and the bytes of a group, `table` and the numbers of a sky; any other row is
-// one for a line.
+// What the scribe answers to a row: `group` and the bytes of a group, `table` and the numbers of a sky, `step` and a command
+// with the settings before it, `counts` and settings; any other row is one for a line.
 mod table;
 
 // Whether the first word of a row is `word`.
@@ -21,6 +21,8 @@ fn begins(row: &[u8], word: &[u8]) -> bool {
 enum Asked {
     Group,
     Table,
+    Step,
+    Counts,
     Line,
 }
 
@@ -31,6 +33,12 @@ fn asked_of(row: &[u8]) -> Asked {
     if begins(row, b"table") {
         return Asked::Table;
     }
+    if begins(row, b"step") {
+        return Asked::Step;
+    }
+    if begins(row, b"counts") {
+        return Asked::Counts;
+    }
     Asked::Line
 }
 
@@ -38,6 +46,8 @@ fn put_reply(out: &mut [u8], at: usize, row: &[u8], asked: Asked) -> usize {
     match asked {
         Asked::Group => grouprow::put_reply(out, at, row),
         Asked::Table => table::put_reply(out, at, row),
+        Asked::Step => steprows::put_step(out, at, row),
+        Asked::Counts => steprows::put_counts(out, at, row),
         Asked::Line => answers::put_reply(out, at, row),
     }
 }

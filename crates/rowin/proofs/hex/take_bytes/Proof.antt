@@ -4,8 +4,8 @@ use mathlib.Core.Path.{_≡_, refl}
 use native.Mathlib.Omega.{arith}
 use borrow.Author.Needs.{needs}
 use lib.ListN.{length, length-set}
-use Rattle.grouprow.proofs.hex.take_bytes.Statement.{statement}
-use Rattle.grouprow.proofs.hex.take_bytes.Tie as tie
+use Rattle.rowin.proofs.hex.take_bytes.Statement.{statement}
+use Rattle.rowin.proofs.hex.take_bytes.Tie as tie
 
 abbrev Inv-loop : tie.InvT-loop
 Inv-loop s from bytes₀ at₀ count₀ bytes at count = length bytes ≡ length bytes₀
