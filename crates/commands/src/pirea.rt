@@ -21,7 +21,7 @@ fn pirea_from(code: Got) -> Sentence
 // The record of the fields of a body `s`, `n` of them after the address, by their ends `p`. Refused: 4
 // where there are not so many as the kind has, 5 at the first wrong field.
 //
-//     $PIREA,0*40
+//     $PIREA,0*53
 pub fn read(n: usize, s: &[u8], p: &[usize]) -> Sentence
     ensures { λ r. ⌜ r ≡ pireaOf n (fieldsBy (now (p .entry)) (now (s .entry))) ⌝ }
 {

@@ -20,7 +20,7 @@ fn pirer_from(zero: Got) -> Sentence
 // The record of the fields of a body `s`, `n` of them after the address, by their ends `p`. Refused: 4
 // where there are not so many as the kind has, 5 at the first wrong field.
 //
-//     $PIRER,0*53
+//     $PIRER,0*40
 pub fn read(n: usize, s: &[u8], p: &[usize]) -> Sentence
     ensures { λ r. ⌜ r ≡ pirerOf n (fieldsBy (now (p .entry)) (now (s .entry))) ⌝ }
 {

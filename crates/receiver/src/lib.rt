@@ -241,7 +241,7 @@ fn take_line(s: Settings, arrival: u32, line: &[u8], out: &mut [u8]) -> Done
 // where the port's protocol is not 4; 1 to 5 of the line; 9 where it is not a command; 8 where `out` is
 // shorter than the reply. A refusal leaves `out` and the settings.
 //
-//     $PIRPR,0,9600,4,007F*53
+//     $PIRPR,0,9600,4,007F*33
 pub fn step(s: Settings, arrival: u32, line: &[u8], out: &mut [u8]) -> Done
     ensures { λ d. ⌜ Does s (outcomeOf s arrival (now (line .entry))) (now (out .entry)) d (now (out .exit)) ⌝ }
 {

@@ -30,7 +30,7 @@ fn put_body(out: &mut [u8], r: CodeTold) -> usize
 // Writes the line of a record into `out`, and answers its length. Refused: 5 at the first value outside its
 // range, 8 where `out` is shorter than the line.
 //
-//     $PIREA,0*40
+//     $PIREA,0*53
 pub fn write(out: &mut [u8], r: CodeTold) -> Written
     ensures { λ w. ⌜ Writes (faultAt (pireaWrong r)) (pireaBody r) (now (out .entry)) w (now (out .exit)) ⌝ }
 {

@@ -14,7 +14,7 @@ fn put_body(out: &mut [u8]) -> usize
 
 // Writes the line into `out`, and answers its length. Refused: 8 where `out` is shorter than the line.
 //
-//     $PIRER,0*53
+//     $PIRER,0*40
 pub fn write(out: &mut [u8]) -> Written
     ensures { λ w. ⌜ Writes (faultAt 0) pirerBody (now (out .entry)) w (now (out .exit)) ⌝ }
 {

@@ -36,7 +36,7 @@ fn put_body(out: &mut [u8], r: PortTold) -> usize
 // Writes the line of a record into `out`, and answers its length. Refused: 5 at the first value outside its
 // range, 8 where `out` is shorter than the line.
 //
-//     $PIRPA,0,4800,4,007F*4C
+//     $PIRPA,0,4800,4,007F*23
 pub fn write(out: &mut [u8], r: PortTold) -> Written
     ensures { λ w. ⌜ Writes (faultAt (pirpaWrong r)) (pirpaBody r) (now (out .entry)) w (now (out .exit)) ⌝ }
 {

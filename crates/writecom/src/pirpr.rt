@@ -56,7 +56,7 @@ fn put_body(out: &mut [u8], r: PortAsked) -> usize
 // Writes the line of a record into `out`, and answers its length. Refused: 5 at the first value outside its
 // range, 8 where `out` is shorter than the line.
 //
-//     $PIRPR,0,4800,4,007F*5F
+//     $PIRPR,0,4800,4,007F*30
 pub fn write(out: &mut [u8], r: PortAsked) -> Written
     ensures { λ w. ⌜ Writes (faultAt (pirprWrong r)) (pirprBody r) (now (out .entry)) w (now (out .exit)) ⌝ }
 {

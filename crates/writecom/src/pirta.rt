@@ -32,7 +32,7 @@ fn put_body(out: &mut [u8], r: DatumTold) -> usize
 // Writes the line of a record into `out`, and answers its length. Refused: 5 at the first value outside its
 // range, 8 where `out` is shorter than the line.
 //
-//     $PIRTA,0,0300*4E
+//     $PIRTA,0,0300*6D
 pub fn write(out: &mut [u8], r: DatumTold) -> Written
     ensures { λ w. ⌜ Writes (faultAt (pirtaWrong r)) (pirtaBody r) (now (out .entry)) w (now (out .exit)) ⌝ }
 {

@@ -40,7 +40,7 @@ fn put_body(out: &mut [u8], r: DatumAsked) -> usize
 // Writes the line of a record into `out`, and answers its length. Refused: 5 at the first value outside its
 // range, 8 where `out` is shorter than the line.
 //
-//     $PIRTR,0,0300*5D
+//     $PIRTR,0,0300*7E
 pub fn write(out: &mut [u8], r: DatumAsked) -> Written
     ensures { λ w. ⌜ Writes (faultAt (pirtrWrong r)) (pirtrBody r) (now (out .entry)) w (now (out .exit)) ⌝ }
 {
