@@ -58,6 +58,8 @@ def read_until_lf(fd, ends):
 
 
 def started(stdin, stdout, *words):
+    """Starts the program; it is proved and built before, so that no deadline waits for that."""
+    assert run("standin", b"") == (b"", b"")
     return subprocess.Popen(command("standin", *words), stdin=stdin, stdout=stdout, stderr=subprocess.PIPE, cwd=ROOT, bufsize=0)
 
 
