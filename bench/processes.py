@@ -1,10 +1,11 @@
 """Times the two listings as whole processes: `python3 bench/processes.py LOG RATTLE.. -- RUST..`, each a command.
 
-Both get the log, over and over, as standard input, and must write the same. Medians of five runs in turns, after one
-of each untimed.
+Both get the log as standard input and must write the same. Medians of five runs in turns, after one of each untimed. Then the
+proved one alone over a quarter, a half and all of the log: its time a megabyte and the most memory that it had.
 """
 
 import hashlib
+import os
 import statistics
 import subprocess
 import sys
@@ -12,7 +13,6 @@ import tempfile
 import time
 
 RUNS = 5
-LOG_BYTES = 12 << 20
 
 
 def run(command, log):
@@ -42,16 +42,36 @@ def race(sides, log, size):
     return 0
 
 
+def memory(command, log):
+    """Gives the most memory, in kilobytes, that the command had over the log."""
+    log.seek(0)
+    process = subprocess.Popen(command, stdin=log, stdout=subprocess.DEVNULL)
+    _, status, usage = os.wait4(process.pid, 0)
+    process.returncode = os.waitstatus_to_exitcode(status)
+    assert process.returncode == 0, (command, process.returncode)
+    return usage.ru_maxrss
+
+
+def growth(command, whole):
+    """Prints what the command takes over a quarter, a half and all of the bytes."""
+    for part in (4, 2, 1):
+        size = len(whole) // part
+        with tempfile.TemporaryFile() as log:
+            log.write(whole[:size])
+            log.flush()
+            took = statistics.median(run(command, log)[0] for _ in range(RUNS))
+            print("listing of %.1f MB: %.2f ms/MB, at most %d kB of memory" % (size / 1e6, took * 1e9 / size, memory(command, log)))
+
+
 def main(arguments):
-    """Writes the log to a file, over and over, and races the two commands over it."""
+    """Races the two commands over the log, and shows how the first one grows."""
     between = arguments.index("--")
-    with open(arguments[0], "rb") as source:
-        once = source.read()
-    times = LOG_BYTES // len(once) + 1
-    with tempfile.TemporaryFile() as log:
-        log.write(once * times)
-        log.flush()
-        return race([arguments[1:between], arguments[between + 1:]], log, len(once) * times)
+    sides = [arguments[1:between], arguments[between + 1:]]
+    with open(arguments[0], "rb") as log:
+        whole = log.read()
+        failed = race(sides, log, len(whole))
+    growth(sides[0], whole)
+    return failed
 
 
 if __name__ == "__main__":

@@ -1,6 +1,6 @@
 //! Groups of GSV lines read to a table: both sides over the same groups.
 
-use crate::log::Random;
+use crate::log::{group, Random};
 use crate::rattle;
 use crate::records::made;
 use bench::sky::{read_group, Refusal, Sky};
@@ -8,41 +8,10 @@ use bench::sky::{read_group, Refusal, Sky};
 /// How many groups a row has.
 const GROUPS: usize = 2_000;
 
-fn sealed(body: &str) -> String {
-    let xor = body.bytes().fold(0, |x, b| x ^ b);
-    format!("${}*{:02X}\r\n", body, xor)
-}
-
-/// A whole group of so many satellites, one value in ten missing.
-fn group(r: &mut Random, satellites: usize) -> Vec<u8> {
-    let talker = ["GP", "GL", "GA", "GQ", "GN"][r.below(5) as usize];
-    let lines = ((satellites + 3) / 4).max(1);
-    let first = r.below(60) as usize;
-    let mut text = String::new();
-    let mut value = |text: &mut String, width: usize, below: u64| {
-        if r.below(10) > 0 {
-            *text += &format!(",{:0width$}", r.below(below), width = width);
-        } else {
-            *text += ",";
-        }
-    };
-    for k in 1..=lines {
-        let mut body = format!("{}GSV,{},{},{:02}", talker, lines, k, satellites);
-        for i in 4 * (k - 1)..satellites.min(4 * k) {
-            body += &format!(",{:02}", 1 + first + i);
-            value(&mut body, 2, 91);
-            value(&mut body, 3, 360);
-            value(&mut body, 2, 100);
-        }
-        text += &sealed(&body);
-    }
-    text.into_bytes()
-}
-
 /// Groups of so many satellites each.
 pub fn of(seed: u64, satellites: usize) -> Vec<Vec<u8>> {
     let mut r = Random::new(seed);
-    (0..GROUPS).map(|_| group(&mut r, satellites)).collect()
+    (0..GROUPS).map(|_| group(&mut r, satellites).concat().into_bytes()).collect()
 }
 
 #[inline(never)]
@@ -63,12 +32,27 @@ fn sum(s: &[u8]) -> u64 {
     }
 }
 
+/// The same of what the proved reader hands over.
+fn sum_by_rattle(s: &[u8]) -> u64 {
+    let mut numbers = [0; rattle::GROUP];
+    let (no, line, field) = rattle::read_group(s, &mut numbers);
+    made(&numbers);
+    if no > 0 {
+        return 1_000_000 * u64::from(no) + 1_000 * line as u64 + field as u64;
+    }
+    let count = numbers[1] as usize;
+    numbers[2..2 + 7 * count].chunks_exact(7).fold(u64::from(numbers[0]) + 10 * count as u64, |n, e| {
+        let value = |i: usize| if e[i] > 0 { 7 + u64::from(e[i + 1]) } else { 0 };
+        n + u64::from(e[0]) + value(1) + value(3) + value(5)
+    })
+}
+
 fn all(groups: &[Vec<u8>], sum: impl Fn(&[u8]) -> u64) -> u64 {
     groups.iter().fold(0, |n, g| n * 31 % 1_000_003 + sum(g))
 }
 
 pub fn all_by_rattle(groups: &[Vec<u8>]) -> u64 {
-    all(groups, rattle::sky_sum)
+    all(groups, sum_by_rattle)
 }
 
 pub fn all_by_rust(groups: &[Vec<u8>]) -> u64 {
@@ -84,7 +68,7 @@ pub fn agree(groups: &[Vec<u8>]) {
         hurt[at] ^= 1 << r.below(7);
         let last = g[..g.len() - 1].iter().rposition(|&b| b == b'\n').map_or(0, |i| i + 1);
         for s in [&g[..], &hurt[..], &g[..last], &[&g[..], &g[..]].concat()[..]] {
-            assert_eq!(rattle::sky_sum(s), sum(s), "group {:?}", String::from_utf8_lossy(s));
+            assert_eq!(sum_by_rattle(s), sum(s), "group {:?}", String::from_utf8_lossy(s));
             whole += usize::from(sum(s) < 1_000_000);
         }
     }

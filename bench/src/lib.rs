@@ -2,5 +2,6 @@
 
 pub mod plain;
 pub mod read;
+pub mod receiver;
 pub mod sky;
 pub mod write;

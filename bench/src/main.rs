@@ -4,13 +4,15 @@ mod groups;
 mod log;
 mod rattle;
 mod records;
+mod steps;
 mod writing;
 
 use bench::plain;
 use std::time::Instant;
+use std::{env, fs};
 
 const RUNS: usize = 5;
-const LOG_BYTES: usize = 8 << 20;
+const LOG_BYTES: usize = 50_000_000;
 const SEED: u64 = 0x0bad_cab1e;
 
 /// Keeps the compiler from leaving out what nobody reads.
@@ -153,60 +155,93 @@ fn row(what: &str, bytes: usize, lines: usize, (rattle, rust): (f64, f64)) {
     println!("| {} | {:.0} | {:.0} | {:.0} | {:.0} | {:.2} |", what, ns(rattle), ns(rust), mb(rattle), mb(rust), rust / rattle);
 }
 
-fn main() {
-    let small = log::log(SEED ^ 1, 1 << 18);
-    agree(&small);
-    let log = log::log(SEED, LOG_BYTES);
-    agree(&log);
-    let lines = cut(&log);
-    println!("| what | Rattle ns/line | Rust ns/line | Rattle MB/s | Rust MB/s | ratio |");
-    println!("|---|---|---|---|---|---|");
+/// The finder, the line rule and the fields, over a log.
+fn rows_of_lines(log: &[u8], lines: &[&[u8]]) {
     let show = |what, times| row(what, log.len(), lines.len(), times);
-    show("line rule", race(&|| all_refusals(&lines, rattle::line_refusal), &|| all_refusals(&lines, plain::line_refusal)));
-    show("line rule, Rust without a table", race(&|| all_refusals(&lines, rattle::line_refusal), &|| all_refusals(&lines, plain::line_refusal_by_tests)));
-    show("fields found in one pass", race(&|| all_fields(&lines, rattle::places), &|| all_fields(&lines, plain::places)));
-    show("finder over a slice", race(&|| all_places(&log, rattle::next_line), &|| all_places(&log, plain::next_line)));
-    show("finder fed byte by byte, a call a byte", race(&|| all_fed_rattle(&log), &|| all_fed_by_call(&log)));
-    show("finder fed byte by byte, Rust inlined", race(&|| all_fed_rattle(&log), &|| all_fed_inlined(&log)));
-    let mixed = records::mixed();
-    records::agree(&lines);
-    records::agree(&cut(&mixed));
-    let race_reading = |lines: &[&[u8]]| race(&|| records::all_by_rattle(lines), &|| records::all_by_rust(lines));
-    show("line read to its record", race_reading(&lines));
-    let chosen = records::chosen(&mixed);
-    for (kind, lines) in &chosen {
-        let what = match *kind {
-            "" => "line read to its record, fifteen kinds, none refused".to_string(),
-            kind => format!("{} read to its record", kind),
-        };
-        row(&what, lines.iter().map(|l| l.len()).sum(), lines.len(), race_reading(lines));
+    show("line rule", race(&|| all_refusals(lines, rattle::line_refusal), &|| all_refusals(lines, plain::line_refusal)));
+    show("line rule, Rust without a table", race(&|| all_refusals(lines, rattle::line_refusal), &|| all_refusals(lines, plain::line_refusal_by_tests)));
+    show("fields found in one pass", race(&|| all_fields(lines, rattle::places), &|| all_fields(lines, plain::places)));
+    show("finder over a slice", race(&|| all_places(log, rattle::next_line), &|| all_places(log, plain::next_line)));
+    show("finder fed byte by byte, a call a byte", race(&|| all_fed_rattle(log), &|| all_fed_by_call(log)));
+    show("finder fed byte by byte, Rust inlined", race(&|| all_fed_rattle(log), &|| all_fed_inlined(log)));
+}
+
+fn size(lines: &[impl AsRef<[u8]>]) -> usize {
+    lines.iter().map(|l| l.as_ref().len()).sum()
+}
+
+/// A row's name: of all kinds together, whose name is empty, or of one.
+fn named(kind: &str, all: &str, one: &str) -> String {
+    match kind {
+        "" => all.to_string(),
+        kind => format!("{} {}", kind, one),
     }
+}
+
+fn rows_of_reading(lines: &[&[u8]], kinds: &[(&str, Vec<&[u8]>)]) {
+    let times = |lines: &[&[u8]]| race(&|| records::all_by_rattle(lines), &|| records::all_by_rust(lines));
+    row("line read to its record", size(lines), lines.len(), times(lines));
+    let alone = race(&|| records::refusals_by_rattle(lines), &|| records::all_by_rust(lines));
+    row("line read in full, the refusal alone handed over", size(lines), lines.len(), alone);
+    for (kind, lines) in kinds {
+        let what = named(kind, "line read to its record, fifteen kinds, none refused", "read to its record");
+        row(&what, size(lines), lines.len(), times(lines));
+    }
+}
+
+fn rows_of_groups() {
     for (satellites, what) in [(36, "group of nine lines read"), (12, "group of three lines read"), (3, "group of one line read")] {
         let some = groups::of(SEED, satellites);
         groups::agree(&some);
         let lines = some.iter().flatten().filter(|&&b| b == b'\n').count();
-        row(what, some.iter().map(|g| g.len()).sum(), lines, race(&|| groups::all_by_rattle(&some), &|| groups::all_by_rust(&some)));
+        row(what, size(&some), lines, race(&|| groups::all_by_rattle(&some), &|| groups::all_by_rust(&some)));
     }
-    writing::agree(&lines);
-    writing::agree(&cut(&mixed));
+}
+
+fn row_of_steps(others: &[&[u8]]) {
+    let commands = steps::of(SEED);
+    steps::agree(&commands, others);
+    row("command carried out", size(&commands), commands.len(), race(&|| steps::all_by_rattle(&commands), &|| steps::all_by_rust(&commands)));
+}
+
+fn rows_of_writing(lines: &[&[u8]], kinds: &[(&str, Vec<&[u8]>)]) {
     let show = |what: &str, lines: &[&[u8]]| {
         let (bytes, count) = writing::size(lines);
         row(what, bytes, count, race(&|| writing::all_by_rattle(lines), &|| writing::all_by_rust(lines)));
     };
-    show("record written", &writing::chosen(&lines));
-    for (kind, lines) in &chosen {
-        let what = match *kind {
-            "" => "record written, fifteen kinds".to_string(),
-            kind => format!("{} written", kind),
-        };
-        show(&what, &writing::chosen(lines));
+    show("record written", &writing::chosen(lines));
+    for (kind, lines) in kinds {
+        show(&named(kind, "record written, fifteen kinds", "written"), &writing::chosen(lines));
     }
     let show_each = |what: &str, lines: &[&[u8]]| {
         let (bytes, count) = writing::size_each(lines);
         row(what, bytes, count, race(&|| writing::each_by_rattle(lines), &|| writing::each_by_rust(lines)));
     };
-    show_each("line read and its record written", &lines);
-    show_each("line read and its record written, fifteen kinds, none refused", &chosen[0].1);
+    show_each("line read and its record written", lines);
+    show_each("line read and its record written, fifteen kinds, none refused", &kinds[0].1);
+}
+
+/// `bench MIXED LOG`: MIXED is a log of all kinds, most lines damaged; the log that the rows are of is written to LOG.
+fn main() {
+    let mixed = records::mixed();
+    let small = log::log(SEED ^ 1, 1 << 18);
+    agree(&small);
+    let log = log::log(SEED, LOG_BYTES);
+    agree(&log);
+    fs::write(env::args().nth(2).expect("the second argument names a file for the log"), &log).expect("the log can be written");
+    let lines = cut(&log);
+    records::agree(&lines);
+    records::agree(&cut(&mixed));
+    writing::agree(&cut(&small));
+    writing::agree(&cut(&mixed));
+    let kinds = records::chosen(&mixed);
+    println!("| what | Rattle ns/line | Rust ns/line | Rattle MB/s | Rust MB/s | ratio |");
+    println!("|---|---|---|---|---|---|");
+    rows_of_lines(&log, &lines);
+    rows_of_reading(&lines, &kinds);
+    rows_of_groups();
+    row_of_steps(&cut(&mixed));
+    rows_of_writing(&lines, &kinds);
 }
 
 #[test]
@@ -217,4 +252,5 @@ fn both_sides_agree() {
     groups::agree(&groups::of(7, 36));
     groups::agree(&groups::of(8, 5));
     writing::agree(&cut(&log));
+    steps::agree(&steps::of(7), &cut(&log));
 }

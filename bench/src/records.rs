@@ -48,7 +48,17 @@ fn all(lines: &[&[u8]], read: impl Fn(&[u8]) -> (u8, usize)) -> u64 {
 }
 
 pub fn all_by_rattle(lines: &[&[u8]]) -> u64 {
-    all(lines, rattle::read)
+    all(lines, |line| {
+        let mut record = rattle::Numbers::new();
+        let answer = rattle::read(line, &mut record);
+        made(&record);
+        answer
+    })
+}
+
+/// The refusal alone: no numbers cross.
+pub fn refusals_by_rattle(lines: &[&[u8]]) -> u64 {
+    all(lines, rattle::refusal)
 }
 
 pub fn all_by_rust(lines: &[&[u8]]) -> u64 {
@@ -59,8 +69,9 @@ pub fn all_by_rust(lines: &[&[u8]]) -> u64 {
 pub fn agree(lines: &[&[u8]]) {
     let mut numbers = [0; 6];
     for line in lines {
-        let (no, field) = rattle::read(line);
+        let (no, field) = rattle::read(line, &mut rattle::Numbers::new());
         assert_eq!((no, field), read(line), "reading {:?}", String::from_utf8_lossy(line));
+        assert_eq!((no, field), rattle::refusal(line), "refusal of {:?}", String::from_utf8_lossy(line));
         numbers[no as usize] += 1;
     }
     println!("same readings: {} lines; {} read, refused by number from 1 on: {:?}", lines.len(), numbers[0], &numbers[1..]);
@@ -68,7 +79,7 @@ pub fn agree(lines: &[&[u8]]) {
 
 /// As many of the lines that read, one after another and again from the first, as make a long run.
 fn sound<'a>(log: &'a [u8], wanted: impl Fn(&[u8]) -> bool) -> Vec<&'a [u8]> {
-    let lines: Vec<&[u8]> = cut(log).into_iter().filter(|l| rattle::read(l).0 == 0 && wanted(l)).collect();
+    let lines: Vec<&[u8]> = cut(log).into_iter().filter(|l| rattle::refusal(l).0 == 0 && wanted(l)).collect();
     lines.iter().copied().cycle().take(100_000).collect()
 }
 
