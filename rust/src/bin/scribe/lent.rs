@@ -1,0 +1,46 @@
+//! Bytes that are lent to a writer, and the answer that says what it left in them.
+
+use crate::words;
+use castanwel::Refusal;
+
+const FILL: u8 = 0xAA;
+
+/// A buffer that tells whether a byte was changed which had to stay.
+pub struct Lent {
+    bytes: Vec<u8>,
+    room: usize,
+}
+
+impl Lent {
+    /// A buffer of so many bytes, of which so many are lent.
+    pub fn new(size: usize, room: usize) -> Lent {
+        Lent { bytes: vec![FILL; size], room }
+    }
+
+    /// What is lent.
+    pub fn room(&mut self) -> &mut [u8] {
+        &mut self.bytes[..self.room]
+    }
+
+    /// `ok` and what was written, or the refusal; `touched` where a byte was changed past what was written.
+    pub fn answer(&self, written: Result<usize, Refusal>) -> String {
+        let length = written.unwrap_or(0);
+        if !self.bytes.iter().skip(length).all(|&byte| byte == FILL) {
+            return touched();
+        }
+        match written {
+            Ok(length) => format!("ok {}", words::hex(&self.bytes[..length])),
+            Err(refusal) => refused(refusal),
+        }
+    }
+}
+
+/// The answer where something was changed that had to stay.
+pub fn touched() -> String {
+    "touched".to_owned()
+}
+
+/// The answer with number, line and field of a refusal.
+pub fn refused(refusal: Refusal) -> String {
+    format!("refused {} {} {}", refusal.number, refusal.line, refusal.field)
+}

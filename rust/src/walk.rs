@@ -1,0 +1,125 @@
+//! Typed values to numbers and back. A value is walked over number by number, in the order of docs/LAYOUT.md; a cursor takes each number
+//! down, puts another in its place, or notes what it is. So the order of a record stands once, for both ways.
+
+use crate::numbers::Cell;
+
+/// What goes along the numbers of a value: it is shown each number, and gives the one that the value has from then on.
+pub(crate) trait Cursor {
+    fn number(&mut self, cell: Cell, number: u32) -> u32;
+}
+
+/// A value that is made of numbers.
+pub(crate) trait Walk {
+    fn walk<C: Cursor>(&mut self, c: &mut C);
+}
+
+impl Walk for u32 {
+    fn walk<C: Cursor>(&mut self, c: &mut C) {
+        *self = c.number(Cell::Plain, *self);
+    }
+}
+
+impl Walk for i32 {
+    fn walk<C: Cursor>(&mut self, c: &mut C) {
+        *self = c.number(Cell::Signed, *self as u32) as i32;
+    }
+}
+
+/// A letter is its byte; a number that is no byte is no letter, 0.
+impl Walk for u8 {
+    fn walk<C: Cursor>(&mut self, c: &mut C) {
+        *self = u8::try_from(c.number(Cell::Plain, u32::from(*self))).unwrap_or(0);
+    }
+}
+
+/// A mark, and the value, which is blank where it is missing.
+impl<T: Walk + Default> Walk for Option<T> {
+    fn walk<C: Cursor>(&mut self, c: &mut C) {
+        let there = c.number(Cell::Mark, u32::from(self.is_some())) != 0;
+        let mut value = self.take().unwrap_or_default();
+        value.walk(c);
+        *self = if there { Some(value) } else { None };
+    }
+}
+
+impl<T: Walk, const N: usize> Walk for [T; N] {
+    fn walk<C: Cursor>(&mut self, c: &mut C) {
+        for one in self {
+            one.walk(c);
+        }
+    }
+}
+
+/// Declares a struct whose numbers are those of its fields in the order in which they stand.
+macro_rules! in_order {
+    ($(#[$about:meta])* pub struct $name:ident { $($(#[$says:meta])* pub $field:ident: $held:ty,)* }) => {
+        $(#[$about])*
+        pub struct $name { $($(#[$says])* pub $field: $held,)* }
+
+        impl crate::walk::Walk for $name {
+            fn walk<C: crate::walk::Cursor>(&mut self, c: &mut C) {
+                $(crate::walk::Walk::walk(&mut self.$field, c);)*
+            }
+        }
+    };
+}
+pub(crate) use in_order;
+
+/// Takes the numbers of a value down.
+struct Down<'a> {
+    numbers: &'a mut [u32],
+    at: usize,
+}
+
+impl Cursor for Down<'_> {
+    fn number(&mut self, _: Cell, number: u32) -> u32 {
+        self.numbers[self.at] = number;
+        self.at += 1;
+        number
+    }
+}
+
+/// Puts numbers in the place of a value's own.
+struct Up<'a> {
+    numbers: &'a [u32],
+    at: usize,
+}
+
+impl Cursor for Up<'_> {
+    fn number(&mut self, _: Cell, _: u32) -> u32 {
+        self.at += 1;
+        self.numbers[self.at - 1]
+    }
+}
+
+/// Notes what the numbers of a value are.
+struct Noting {
+    cells: Vec<Cell>,
+}
+
+impl Cursor for Noting {
+    fn number(&mut self, cell: Cell, number: u32) -> u32 {
+        self.cells.push(cell);
+        number
+    }
+}
+
+/// Stores the numbers of a value, and gives how many they are.
+pub(crate) fn take_down(mut value: impl Walk, numbers: &mut [u32]) -> usize {
+    let mut down = Down { numbers, at: 0 };
+    value.walk(&mut down);
+    down.at
+}
+
+/// The value with these numbers in place of its own.
+pub(crate) fn put_up<T: Walk>(mut value: T, numbers: &[u32]) -> T {
+    value.walk(&mut Up { numbers, at: 0 });
+    value
+}
+
+/// What each number of a value is.
+pub(crate) fn cells_of(mut value: impl Walk) -> Vec<Cell> {
+    let mut noting = Noting { cells: Vec::new() };
+    value.walk(&mut noting);
+    noting.cells
+}
