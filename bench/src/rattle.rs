@@ -7,7 +7,7 @@ extern "C" {
     fn castanwel_next_line(s: *const u8, s_len: usize, at: usize, start: *mut usize, end: *mut usize) -> bool;
     fn castanwel_places(body: *const u8, body_len: usize, ends: *mut usize, ends_len: usize) -> usize;
     fn castanwel_feed(held: usize, b: u8, line: *mut usize) -> usize;
-    fn castanwel_read(line: *const u8, line_len: usize, field: *mut usize) -> u8;
+    fn castanwel_refusal(line: *const u8, line_len: usize, field: *mut usize) -> u8;
     fn castanwel_sky_sum(s: *const u8, s_len: usize) -> u64;
     fn castanwel_write_times(line: *const u8, line_len: usize, out: *mut u8, out_len: usize, times: usize) -> usize;
 }
@@ -25,7 +25,7 @@ pub fn places(body: &[u8], ends: &mut [usize]) -> usize {
 /// The number and the field of the refusal of a line that is read to its record; 0 and 0 where it reads.
 pub fn read(line: &[u8]) -> (u8, usize) {
     let mut field = 0;
-    let no = unsafe { castanwel_read(line.as_ptr(), line.len(), &mut field) };
+    let no = unsafe { castanwel_refusal(line.as_ptr(), line.len(), &mut field) };
     (no, field)
 }
 
