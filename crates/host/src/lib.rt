@@ -1,4 +1,6 @@
 // The library's functions as Rust or C calls them, on numbers and lent bytes.
+pub mod sentences;
+
 ghost use mathlib.Core.Path.{_≡_};
 ghost use Rattle.line.specs.Line.{lineRefusal};
 ghost use Rattle.finder.specs.Finder.{heldNext, endsHere};
@@ -58,7 +60,7 @@ pub extern "C" fn castanwel_places(body: &[u8], ends: &mut [usize]) -> usize
 // Reads `line` to its record, and returns the number of its refusal, 0 where it reads. `field` is set to
 // the field of the refusal, or to 0 where it has none.
 #[no_mangle]
-pub extern "C" fn castanwel_read(line: &[u8], field: &mut usize) -> u8
+pub extern "C" fn castanwel_refusal(line: &[u8], field: &mut usize) -> u8
     ensures { λ r. ⌜ r ≡ refusalOf (readLine (now (line .entry)) .sentence) .no ⌝ }
     ensures { λ _. ⌜ now (field .exit) ≡ refusalOf (readLine (now (line .entry)) .sentence) .field ⌝ }
 {

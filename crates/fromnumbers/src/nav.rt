@@ -1,0 +1,61 @@
+// The records of position, course and time, each from its numbers.
+use crate::values;
+use records::Gga;
+use records::Gll;
+use records::Rmc;
+use records::Vtg;
+use records::Zda;
+
+pub fn gga(n: &[u32]) -> Gga {
+    Gga {
+        time: values::maybe(n, 1),
+        place: values::place(n, 3),
+        quality: slots::at(n, 6),
+        satellites: values::maybe(n, 7),
+        hdop: values::number(n, 9),
+        altitude: values::signed(n, 11),
+        geoid: values::signed(n, 13),
+        age: values::number(n, 15),
+        station: values::maybe(n, 17),
+    }
+}
+
+pub fn gll(n: &[u32]) -> Gll {
+    Gll {
+        place: values::place(n, 1),
+        time: values::maybe(n, 4),
+        status: slots::at(n, 6),
+        mode: slots::at(n, 7),
+    }
+}
+
+pub fn rmc(n: &[u32]) -> Rmc {
+    Rmc {
+        time: values::maybe(n, 1),
+        status: slots::at(n, 3),
+        place: values::place(n, 4),
+        speed: values::knots(n, 7),
+        course: values::number(n, 9),
+        date: values::date(n, 11),
+        variation: values::signed(n, 15),
+        mode: slots::at(n, 17),
+    }
+}
+
+pub fn vtg(n: &[u32]) -> Vtg {
+    Vtg {
+        course: values::number(n, 1),
+        magnetic: values::number(n, 3),
+        knots: values::knots(n, 5),
+        kmh: values::kmh(n, 7),
+        mode: slots::at(n, 9),
+    }
+}
+
+pub fn zda(n: &[u32]) -> Zda {
+    Zda {
+        time: values::maybe(n, 1),
+        date: values::date(n, 3),
+        zone: values::zone(n, 7),
+    }
+}

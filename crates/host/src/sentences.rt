@@ -1,0 +1,36 @@
+// Records read and written by a host, as numbers.
+
+// Reads `line` to its record, stores the record's numbers at the start of `numbers`, sets `kind` to its kind
+// and answers 0. Else `kind` is 0, `numbers` is left, and the answer is the refusal of the line with its
+// `field`, or 8 where `numbers` is too short. `field` is 0 where there is none.
+#[no_mangle]
+pub extern "C" fn castanwel_read(
+    line: &[u8],
+    numbers: &mut [u32],
+    kind: &mut u32,
+    field: &mut usize,
+) -> u8 {
+    let told = hostrecords::read(line, numbers);
+    *kind = told.kind;
+    *field = told.field;
+    told.no
+}
+
+// Writes the line of the record of a kind that `numbers` say into `out`, sets `length` to its length and
+// answers 0. Else `length` is 0, `out` is left, and the answer is the refusal with its `line` and `field`: 3
+// for what is no kind or no talker and 5 for too few numbers, both on line 0; or as the kind's writer does.
+#[no_mangle]
+pub extern "C" fn castanwel_write(
+    kind: u32,
+    numbers: &[u32],
+    out: &mut [u8],
+    length: &mut usize,
+    line: &mut usize,
+    field: &mut usize,
+) -> u8 {
+    let written = hostrecords::write(kind, numbers, out);
+    *length = written.length;
+    *line = written.line;
+    *field = written.field;
+    written.no
+}
