@@ -1,0 +1,18 @@
+use borrow.Author.Needs.{needs}
+use Rattle.skynumbers.proofs.lay_entry.Statement.{statement}
+use Rattle.skynumbers.proofs.lay_entry.Tie as tie
+
+returns : tie.Need-returns
+returns c = ?
+
+pub lay-entry-spec : {M : Type 1} → statement M
+lay-entry-spec =
+    tie.close
+    (tie.spec
+    (λ c κs. search needs)
+    (λ c κs. search needs)
+    (λ c κs. search needs)
+    (λ c. search needs)
+    (λ c κs. search needs)
+    (λ c. search needs)
+    returns)
