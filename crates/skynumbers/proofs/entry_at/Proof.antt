@@ -3,7 +3,7 @@ use Rattle.skynumbers.proofs.entry_at.Statement.{statement}
 use Rattle.skynumbers.proofs.entry_at.Tie as tie
 
 returns : tie.Need-returns
-returns c = ?
+returns c = rw (c .at .ensures, c .before .before .before .maybe-at .ensures, c .before .before .maybe-at2 .ensures, c .before .maybe-at3 .ensures)
 
 pub entry-at-spec : {M : Type 1} → statement M
 entry-at-spec =

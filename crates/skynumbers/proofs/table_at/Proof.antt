@@ -1,50 +1,29 @@
+-- The entries before place i are taken; the laws stand in Taking.
+use Prim.Native.Nat.{_-_}
+use mathlib.Core.Path.{_≡_, refl}
+use native.Mathlib.Omega.{arith}
+use borrow.Author.Needs.{needs}
+use lib.ListN.{length}
+use Rattle.skynumbers.specs.Numbers.{tableAt}
+use Rattle.skynumbers.proofs.Taking.{Taken, taken-none, taken-next, taken-all}
 use Rattle.skynumbers.proofs.table_at.Statement.{statement}
 use Rattle.skynumbers.proofs.table_at.Tie as tie
 
 abbrev Inv-loop : tie.InvT-loop
-Inv-loop numbers entries₀ i₀ entries i = ?
+Inv-loop numbers entries₀ i₀ entries i = Taken numbers i entries
 
 abbrev μ-loop : tie.MeasureT-loop
-μ-loop numbers entries₀ i₀ entries i = ?
-
-entry-requires : tie.Need-entry-requires Inv-loop μ-loop
-entry-requires c κs = ?
+μ-loop numbers entries₀ i₀ entries i = 36 - i
 
 loop-holds : tie.Need-loop-holds Inv-loop μ-loop
-loop-holds c = ?
-
-mul-entry-at : tie.Need-mul-entry-at Inv-loop μ-loop
-mul-entry-at c = ?
-
-add-entry-at : tie.Need-add-entry-at Inv-loop μ-loop
-add-entry-at c = ?
-
-entry-at-requires : tie.Need-entry-at-requires Inv-loop μ-loop
-entry-at-requires c κs = ?
-
-mul-entries : tie.Need-mul-entries Inv-loop μ-loop
-mul-entries c = ?
-
-array-set-from-entries : tie.Need-array-set-from-entries Inv-loop μ-loop
-array-set-from-entries c = ?
-
-add-i : tie.Need-add-i Inv-loop μ-loop
-add-i c = ?
-
-loop-less : tie.Need-loop-less Inv-loop μ-loop
-loop-less c = ?
+loop-holds c = taken-none (c .before .before .args .numbers .now) _ refl
 
 loop-again : tie.Need-loop-again Inv-loop μ-loop
-loop-again c = ?
-
-at-requires : tie.Need-at-requires Inv-loop μ-loop
-at-requires c κs = ?
-
-cast-t13 : tie.Need-cast-t13 Inv-loop μ-loop
-cast-t13 c = ?
+loop-again c = taken-next (c .before .before .before .before .before .args .numbers .now) (c .before .before .loop .inv) (c .before .loop-test .taken) (c .entry-at .ensures)
 
 returns : tie.Need-returns Inv-loop μ-loop
-returns c = ?
+unfolding tableAt
+returns c = rw (c .at .ensures, taken-all (c .before .before .before .before .before .args .numbers .now) (c .before .before .loop .inv) (c .before .loop-test .left))
 
 pub table-at-spec : {M : Type 1} → statement M
 table-at-spec =
@@ -52,16 +31,16 @@ table-at-spec =
     (tie.spec
     Inv-loop
     μ-loop
-    entry-requires
+    (λ c κs. search needs)
     loop-holds
-    mul-entry-at
-    add-entry-at
-    entry-at-requires
-    mul-entries
-    array-set-from-entries
-    add-i
-    loop-less
+    (λ c. omega arith)
+    (λ c. omega arith)
+    (λ c κs. omega arith)
+    (λ c. omega arith)
+    (λ c. omega arith)
+    (λ c. omega arith)
+    (λ c. omega arith)
     loop-again
-    at-requires
-    cast-t13
+    (λ c κs. search needs)
+    (λ c. search needs)
     returns)
