@@ -1,4 +1,7 @@
 // The library's functions as Rust or C calls them, on numbers and lent bytes.
+pub mod commands;
+pub mod groups;
+
 ghost use mathlib.Core.Path.{_≡_};
 ghost use Rattle.line.specs.Line.{lineRefusal};
 ghost use Rattle.finder.specs.Finder.{heldNext, endsHere};
