@@ -1,4 +1,6 @@
 // The library's functions as Rust or C calls them, on numbers and lent bytes.
+pub mod commands;
+pub mod groups;
 pub mod sentences;
 
 ghost use mathlib.Core.Path.{_≡_};

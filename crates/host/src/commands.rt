@@ -1,0 +1,73 @@
+// The class receiver as Rust or C keeps it: its settings as eleven numbers, and the step of a command.
+use receiver::Counts;
+use sealing::Written;
+
+// Stores the settings at start as eleven numbers at the start of `settings`, and returns 0; or 8 where that is too
+// short, and then `settings` is left.
+#[no_mangle]
+pub extern "C" fn castanwel_start(settings: &mut [u32]) -> u8 {
+    if settingnumbers::lay(settings, receiver::state::at_start()) {
+        return 0;
+    }
+    8
+}
+
+// Carries out the command in `line` on the settings that eleven numbers say, and stores the settings after it
+// there. Refused: 5 with line 0 where there are fewer; then as `receiver::step` does.
+fn step(settings: &mut [u32], arrival: u32, line: &[u8], out: &mut [u8]) -> Written {
+    if settings.len() < 11 {
+        return sealing::refuse(5, 0, 0);
+    }
+    let done = receiver::step(settingnumbers::at(settings), arrival, line, out);
+    let written = done.written;
+    let after = done.settings;
+    if written.no == 0 {
+        settingnumbers::lay(settings, after);
+    }
+    written
+}
+
+// Carries out the command in `line`, which arrived on port `arrival`, on the settings, and writes the reply into
+// `out`. Returns the number of the refusal, 0 where there is a reply. `length` is set to the length of the reply,
+// `at_line` and `field` to those of the refusal; each to 0 where there is none. A refusal leaves `settings` and `out`.
+#[no_mangle]
+pub extern "C" fn castanwel_step(
+    settings: &mut [u32],
+    arrival: u32,
+    line: &[u8],
+    out: &mut [u8],
+    length: &mut usize,
+    at_line: &mut usize,
+    field: &mut usize,
+) -> u8 {
+    let written = step(settings, arrival, line, out);
+    *length = written.length;
+    *at_line = written.line;
+    *field = written.field;
+    written.no
+}
+
+// How many satellites the settings allow that eleven numbers say. Refused: 5 where there are fewer or where a setting
+// is out of its range.
+fn counts(settings: &[u32]) -> Counts {
+    if settings.len() < 11 {
+        return Counts {
+            no: 5,
+            line: 0,
+            field: 0,
+            gps: 0,
+            glonass: 0,
+        };
+    }
+    receiver::state::counts(settingnumbers::at(settings))
+}
+
+// Sets `gps` and `glonass` to how many satellites of each the settings allow, and returns 0; or 5 where the settings
+// are not eleven numbers in range, and then both are set to 0.
+#[no_mangle]
+pub extern "C" fn castanwel_counts(settings: &[u32], gps: &mut u32, glonass: &mut u32) -> u8 {
+    let counts = counts(settings);
+    *gps = counts.gps;
+    *glonass = counts.glonass;
+    counts.no
+}

@@ -1,0 +1,58 @@
+// Groups of satellites as Rust or C reads and writes them, as 254 numbers.
+use sealing::Written;
+use sky::Whose;
+
+// Reads the lines in `s` as a group, and returns the number of its refusal, 0 where it is a whole sky. Then its
+// 254 numbers stand at the start of `numbers`; 8 where that is too short. `line` and `field` are set to those of the
+// refusal, or to 0. A refusal leaves `numbers`.
+#[no_mangle]
+pub extern "C" fn castanwel_read_group(
+    s: &[u8],
+    numbers: &mut [u32],
+    line: &mut usize,
+    field: &mut usize,
+) -> u8 {
+    let sky = readsky::read(s);
+    let whose = sky.talker;
+    let table = sky.table;
+    *line = sky.line;
+    *field = sky.field;
+    let Whose::Of(t) = whose else {
+        return sky.no;
+    };
+    if skynumbers::lay(numbers, t, table) {
+        return 0;
+    }
+    8
+}
+
+// Writes the group that 254 numbers say. Refused: 5 where there are fewer, then 3 for a talker's number over 4,
+// both with line 0; then as `writesky::write` does.
+fn write_numbers(numbers: &[u32], out: &mut [u8]) -> Written {
+    if numbers.len() < 254 {
+        return sealing::refuse(5, 0, 0);
+    }
+    let n = slots::at(numbers, 0);
+    if 4 < n {
+        return sealing::refuse(3, 0, 0);
+    }
+    writesky::write(out, slots::talker_of(n), skynumbers::table_at(numbers))
+}
+
+// Writes the group that `numbers` say into `out`, and returns the number of its refusal, 0 where it was written.
+// `length` is set to the length of what was written, `line` and `field` to those of the refusal; each to 0 where
+// there is none. A refusal leaves `out`.
+#[no_mangle]
+pub extern "C" fn castanwel_write_group(
+    numbers: &[u32],
+    out: &mut [u8],
+    length: &mut usize,
+    line: &mut usize,
+    field: &mut usize,
+) -> u8 {
+    let written = write_numbers(numbers, out);
+    *length = written.length;
+    *line = written.line;
+    *field = written.field;
+    written.no
+}
