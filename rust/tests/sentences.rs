@@ -4,7 +4,7 @@ mod common;
 
 use castanwel::numbers::{self, Cell, RECORD};
 use castanwel::{read, refusal, write, Kind, Refusal, Sentence, Talker, LONGEST};
-use common::{samples, some_line, Rng};
+use common::{one_of_each, samples, some_line, Rng};
 
 /// The numbers of a line as the sample file has them: `ok ADDRESS NUMBERS` or `refused NUMBER FIELD`.
 fn answer(line: &[u8]) -> String {
@@ -42,13 +42,6 @@ fn reading_and_its_refusal_alone_agree() {
     assert!(met[..4].iter().all(|&times| times > 100), "{:?}", met);
 }
 
-/// One sentence of each kind that reads, out of the samples.
-fn one_of_each() -> Vec<Sentence> {
-    let read_ones: Vec<Sentence> = samples().iter().filter_map(|(line, _)| read(line).ok()).collect();
-    let first = |kind: &Kind| *read_ones.iter().find(|one| one.kind() == *kind).expect("a sample of each kind");
-    Kind::ALL.iter().map(first).collect()
-}
-
 #[test]
 fn what_was_read_is_written_and_reads_back() {
     for (line, _) in samples() {
@@ -67,20 +60,30 @@ fn what_was_read_is_written_and_reads_back() {
 }
 
 #[test]
+fn a_line_of_each_kind_comes_back_as_it_was() {
+    for (line, kind) in one_of_each().iter().zip(Kind::ALL) {
+        let sentence = read(line).expect("a sound line");
+        assert_eq!(sentence.kind(), kind);
+        let mut out = [0; LONGEST];
+        let length = write(&sentence, &mut out).expect("what was read can be written");
+        assert_eq!(&out[..length], &line[..]);
+    }
+}
+
+#[test]
 fn every_room() {
-    for sentence in one_of_each() {
-        let mut whole = [0; LONGEST];
-        let length = write(&sentence, &mut whole).expect("a sample can be written");
-        for room in 0..LONGEST {
+    for line in one_of_each() {
+        let sentence = read(&line).expect("a sound line");
+        for room in 0..=LONGEST {
             let mut out = [0xAA; LONGEST];
             let written = write(&sentence, &mut out[..room]);
-            if room < length {
+            if room < line.len() {
                 assert_eq!(written, Err(Refusal { number: 8, line: 1, field: 0 }));
                 assert_eq!(out, [0xAA; LONGEST]);
             } else {
-                assert_eq!(written, Ok(length));
-                assert_eq!(out[..length], whole[..length]);
-                assert!(out[length..].iter().all(|&b| b == 0xAA));
+                assert_eq!(written, Ok(line.len()));
+                assert_eq!(out[..line.len()], line[..]);
+                assert!(out[line.len()..].iter().all(|&b| b == 0xAA));
             }
         }
     }
@@ -88,22 +91,20 @@ fn every_room() {
 
 #[test]
 fn slices_of_numbers_that_are_too_short() {
-    for sentence in one_of_each() {
-        let (mut line, mut numbers) = ([0; LONGEST], [0; RECORD]);
-        let length = write(&sentence, &mut line).expect("a sample can be written");
-        let kind = numbers::read(&line[..length], &mut numbers).expect("it reads back");
-        let count = sentence.kind().cells().len();
+    for (line, sort) in one_of_each().iter().zip(Kind::ALL) {
+        let (mut numbers, count) = ([0; RECORD], sort.cells().len());
+        let kind = numbers::read(line, &mut numbers).expect("a sound line");
         for short in 0..=count {
             let mut some = [7; RECORD];
-            let came = numbers::read(&line[..length], &mut some[..short]);
+            let came = numbers::read(line, &mut some[..short]);
             let written = numbers::write(kind, &numbers[..short], &mut [0; LONGEST]);
             if short == count {
-                assert_eq!((came, written), (Ok(kind), Ok(length)));
+                assert_eq!((came, written), (Ok(kind), Ok(line.len())));
                 assert_eq!(some[..count], numbers[..count]);
                 assert!(some[count..].iter().all(|&n| n == 7));
             } else {
-                assert_eq!(came, Err(Refusal { number: 8, line: 0, field: 0 }), "{} of {:?}", short, sentence);
-                assert_eq!(written, Err(Refusal { number: 5, line: 0, field: 0 }), "{} of {:?}", short, sentence);
+                assert_eq!(came, Err(Refusal { number: 8, line: 0, field: 0 }), "{} of {:?}", short, sort);
+                assert_eq!(written, Err(Refusal { number: 5, line: 0, field: 0 }), "{} of {:?}", short, sort);
                 assert_eq!(some, [7; RECORD]);
             }
         }

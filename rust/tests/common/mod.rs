@@ -40,6 +40,31 @@ pub fn samples() -> Vec<(Vec<u8>, &'static str)> {
     samples
 }
 
+/// The body of a line of each kind, in the order of their numbers.
+const BODIES: [&str; 15] = [
+    "GPGGA,074823.00,5550.6111,N,03732.2534,E,1,09,0.9,-12.5,M,14.25,M,3,1023",
+    "GLGLL,5550.6111,S,03732.2534,W,074823.00,A,D",
+    "GNGSA,A,3,05,12,,29,,,77,,,,,99,1.8,0.9,1.5",
+    "GAGSV,2,1,05,05,71,048,53,12,,,,29,00,359,00,77,90,000,",
+    "GQRMC,074823.00,V,5550.6111,N,03732.2534,E,0.25,359.999,290224,8.5,W,N",
+    "GPVTG,120.5,T,112,M,4.5,N,8.334,K,E",
+    "GPZDA,235959.99,31,12,2079,-13,59",
+    "PIRPR,1,115200,4,0F7F",
+    "PIRTR,4,-1359",
+    "PIRSR,7FFEFFFF,FFFFFE,",
+    "PIRER,0",
+    "PIRPA,0,1200,0,0000",
+    "PIRTA,0,0000",
+    "PIRSA,00000000,000000,",
+    "PIREA,255",
+];
+
+/// A line of each kind.
+pub fn one_of_each() -> Vec<Vec<u8>> {
+    let line = |body: &&str| format!("${}*{:02X}\r\n", body, body.bytes().fold(0, |sum, b| sum ^ b)).into_bytes();
+    BODIES.iter().map(line).collect()
+}
+
 const ODD: &[u8] = b"$*!\\^~,.-\r\n 0aAfF\x00\x1f\x7f\xff";
 
 /// Changes, drops or adds a byte.
