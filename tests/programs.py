@@ -1,4 +1,4 @@
-"""Runs the repository's programs, proved and built, on bytes."""
+"""Runs the repository's programs, built first, on bytes."""
 import pathlib
 import subprocess
 
@@ -6,11 +6,13 @@ ROOT = pathlib.Path(__file__).resolve().parent.parent
 
 
 def command(name, *words):
-    return [str(ROOT / "tools" / "program"), name, *words]
+    """How a program is run: the scribe is written in Rust over the proved library, the others in Rattle."""
+    tools = ROOT / "tools"
+    return [str(tools / "scribe"), *words] if name == "scribe" else [str(tools / "program"), name, *words]
 
 
-def run(name, data, *words):
-    """What a program writes to standard output and to standard error when it is given these bytes."""
+def run(name, data, *words, status=0):
+    """What a program writes to standard output and to standard error when it is given these bytes, and ends with a status."""
     done = subprocess.run(command(name, *words), input=data, capture_output=True, cwd=ROOT, timeout=300)
-    assert done.returncode == 0, (name, done.returncode, done.stderr[-500:])
+    assert done.returncode == status, (name, done.returncode, done.stderr[-500:])
     return done.stdout, done.stderr

@@ -2,8 +2,8 @@
 settings just outside their ranges."""
 import itertools
 
+from scribe import agreed, answers, can_be_said, line_of, short
 from test_second import generated
-from test_writers import agreed, answers, line_of, short
 
 SEEDS = (41, 42, 43)
 COUNT = 3000
@@ -30,11 +30,11 @@ def step_row(port, room, settings, line):
 
 def stepped(rows):
     """What both programs answer to commands."""
-    return agreed(rows, "commands", b"step ")
+    return agreed("commands", rows)
 
 
 def counted(rows):
-    return agreed(rows, "counts", b"counts ")
+    return agreed("counts", rows)
 
 
 def changed(changes):
@@ -42,23 +42,23 @@ def changed(changes):
     return [START[:place] + [value] + START[place + 1:] for place, values in changes for value in values]
 
 
-def seeded(kind, place):
-    """The rows of all seeds whose GPS mask settings can hold; it stands at a place of the row."""
+def seeded(kind):
+    """The rows of all seeds whose GPS mask settings can hold."""
     rows = [row for seed in SEEDS for row in generated(kind, COUNT, seed).splitlines()]
     assert len(rows) == COUNT * len(SEEDS)
-    kept = [row for row in rows if 0 <= int(row.split()[place]) <= 0xFFFFFFFF]
+    kept = [row for row in rows if can_be_said(kind, row)]
     assert 0 < len(rows) - len(kept) < len(rows) * 0.06
     return kept
 
 
 def test_every_answer_is_the_second_programs():
-    ours = stepped(seeded("commands", 2 + GPS))
+    ours = stepped(seeded("commands"))
     assert {short(answer) for answer in ours} == {"ok", 1, 2, 3, 4, 5, 8, 9, 10}
     assert {b"refused 5 0 0", b"refused 5 1 1", b"refused 8 1 0", b"refused 10 1 0"} <= set(ours)
 
 
 def test_every_count_is_the_second_programs():
-    ours = counted(seeded("counts", GPS))
+    ours = counted(seeded("counts"))
     assert {short(answer) for answer in ours} == {"ok", 5}
     assert set(ours) > {b"refused 5 0 0", b"ok 32 24"}
     assert counted([words(one) for one in changed([(GPS, [0x7FFEFFFF]), (GPS + 1, [0xFFFFFE])])]) == [b"ok 30 24", b"ok 32 23"]

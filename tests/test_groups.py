@@ -4,8 +4,8 @@ import itertools
 import random
 import re
 
+from scribe import agreed, answers, line_of, short
 from test_second import generated
-from test_writers import agreed, answers, line_of, short
 
 SEEDS = (31, 32, 33)
 READ = 3000
@@ -19,12 +19,12 @@ DAMAGE = b"\n\r$*,.- \\!059AFGPSVaf\x00\x7f\xff"
 
 def read(rows):
     """What both programs answer to groups in hex."""
-    return agreed(rows, "groups", b"group ")
+    return agreed("groups", rows)
 
 
 def wrote(rows):
     """What both programs answer to rows of tables."""
-    return agreed(rows, "write-groups", b"table ")
+    return agreed("write-groups", rows)
 
 
 def seeded(kind, count):

@@ -6,8 +6,8 @@ import time
 import tty
 
 from programs import ROOT, command, run
+from scribe import line_of as line
 from test_second import second
-from test_writers import line_of as line
 
 DEADLINE = 60
 START = "4800 4 127 4800 4 127 0 0 4294967295 16777215 0"

@@ -1,9 +1,7 @@
 """The proved writers, by way of the program scribe, against the second program: seeded records, every room, rows that are none."""
-import functools
-import operator
-
 from programs import run
-from test_second import generated, second
+from scribe import agreed, answers, can_be_said, line_of, short
+from test_second import generated
 
 SEEDS = (21, 22, 23)
 COUNT = 4000
@@ -17,55 +15,18 @@ def kind_of(row):
     return address if address.startswith("PIR") else address[2:]
 
 
-def told_mask(row):
-    """The GPS mask that a row's record has, or None."""
-    words = row.split()
-    if words[0] == b"PIRSA":
-        return int(words[2])
-    return int(words[3]) if words[0] == b"PIRSR" and words[2] != b"0" else None
-
-
-def can_be_said(row):
-    """Whether a record can hold the row's GPS mask: each of its 32 bits may stand, so no number of 32 bits is outside its range."""
-    mask = told_mask(row)
-    return mask is None or 0 <= mask <= 0xFFFFFFFF
-
-
-def answers(rows):
-    out, said = run("scribe", b"".join(row + b"\n" for row in rows))
-    assert said == b"" and out.endswith(b"\n")
-    ours = out.splitlines()
-    assert len(ours) == len(rows)
-    return ours
-
-
-def agreed(rows, mode="write", word=b""):
-    """What both programs answer to the rows, once every answer is seen to be the same; the scribe knows a mode by its word."""
-    ours = answers([word + row for row in rows])
-    theirs = second(mode, b"".join(row + b"\n" for row in rows)).splitlines()
-    for row, left, right in zip(rows, ours, theirs, strict=True):
-        assert left == right, (row, left, right)
-    return ours
-
-
 def seeded():
     """The rows of all seeds whose masks a record can hold."""
     rows = [row for seed in SEEDS for row in generated("write", COUNT, seed).splitlines()]
     assert len(rows) == COUNT * len(SEEDS)
-    kept = [row for row in rows if can_be_said(row)]
+    kept = [row for row in rows if can_be_said("write", row)]
     assert 0 < len(rows) - len(kept) < len(rows) * 0.06
     return kept
 
 
-def short(answer):
-    """`ok`, or the number of a refusal."""
-    words = answer.split()
-    return "ok" if words[0] == b"ok" else int(words[1])
-
-
 def test_every_answer_is_the_second_programs():
     rows = seeded()
-    ours = agreed(rows)
+    ours = agreed("write", rows)
     assert b"touched" not in ours and b"no row" not in ours
     met = {kind: {short(a) for row, a in zip(rows, ours) if kind_of(row) == kind} for kind in KINDS}
     for kind in KINDS:
@@ -92,12 +53,7 @@ def test_every_room():
             for room in range(length + 3):
                 asked.append(b" ".join([words[0], b"%d" % room, *words[2:]]))
                 expected.append(answer if room >= length else b"refused 8 1 0")
-    assert agreed(asked) == expected
-
-
-def line_of(body):
-    """The line around a body."""
-    return b"$%s*%02X\r\n" % (body, functools.reduce(operator.xor, body))
+    assert agreed("write", asked) == expected
 
 
 def written(body):
@@ -127,5 +83,7 @@ def test_a_rest_without_lf_is_no_row():
 
 
 def test_a_row_longer_than_the_buffer_ends_the_program():
-    out, said = run("scribe", b"PIRER 82\n" + b"x" * 70000 + b"\nPIRER 82\n")
-    assert out == written(b"PIRER,0") + b"\n" and b"too long" in said
+    for length in (65536, 70000):
+        out, said = run("scribe", b"PIRER 82\n" + b"x" * length + b"\nPIRER 82\n", status=1)
+        assert out == written(b"PIRER,0") + b"\n" and said == b"scribe: a row is too long\n"
+    assert answers([b"x" * 65535, b"PIRER 82"]) == [b"no row", written(b"PIRER,0")]

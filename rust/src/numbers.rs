@@ -1,17 +1,8 @@
 //! The proved functions on plain numbers.
 //!
-//! A record is a row of numbers of 32 bits, in the order of docs/LAYOUT.md, behind the number of its talker where its kind has one. So
-//! that a caller can say what a typed record cannot, a value that is marked missing and not zero among it.
-//!
-//! | number | kind | | number | kind | | number | kind |
-//! |---|---|---|---|---|---|---|---|
-//! | 1 | GGA | | 6 | VTG | | 11 | PIRER |
-//! | 2 | GLL | | 7 | ZDA | | 12 | PIRPA |
-//! | 3 | GSA | | 8 | PIRPR | | 13 | PIRTA |
-//! | 4 | GSV | | 9 | PIRTR | | 14 | PIRSA |
-//! | 5 | RMC | | 10 | PIRSR | | 15 | PIREA |
-//!
-//! The talkers are 0 GP, 1 GL, 2 GA, 3 GQ and 4 GN. A value with a sign stands as its 32 bits in two's complement.
+//! docs/LAYOUT.md says which numbers a record, a group and the settings have. A kind goes by [`Kind::number`](crate::Kind::number), a
+//! talker by its place in [`Talker::ALL`](crate::Talker::ALL); a value with a sign stands as its 32 bits in two's complement. Here a caller
+//! can say what a typed record cannot: a value that is marked missing and is not zero, a kind or a talker that there is not.
 
 pub use crate::ffi::{counts, feed, next_line, places, read, read_group, start, step, write, write_group};
 

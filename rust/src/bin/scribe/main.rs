@@ -6,6 +6,8 @@ mod commands;
 mod lent;
 mod sentences;
 mod skies;
+#[cfg(test)]
+mod tests;
 mod words;
 
 use std::io::{self, Read, Write};
@@ -74,7 +76,7 @@ fn answer_all(input: &mut impl Read, output: &mut impl Write) -> Result<(), Stri
         let written = output.write_all(said.as_bytes()).and_then(|()| output.flush());
         written.map_err(|e| format!("standard output cannot be written: {}", e))?;
         buffer.copy_within(done..kept + came, 0);
-        kept += came - done;
+        kept = kept + came - done;
     }
 }
 

@@ -1,0 +1,115 @@
+//! A row of each word, rows that are none, and input in pieces. The many rows are compared by tests/ with the second program.
+
+use crate::lent::Lent;
+use crate::words::{self, Number};
+use crate::{answer, answer_all, answers, BUFFER};
+use castanwel::numbers::Cell;
+use castanwel::Refusal;
+use std::io::{self, Read};
+
+const START: &str = "4800 4 127 4800 4 127 0 0 4294967295 16777215 0";
+
+fn said(row: &str) -> String {
+    answer(row.as_bytes()).unwrap_or_else(|| "no row".to_owned())
+}
+
+#[test]
+fn a_row_of_each_word() {
+    let line = words::hex(b"$GPGSV,1,1,01,05,,,*7D\r\n");
+    assert_eq!(said("PIREA 82 17"), format!("ok {}", words::hex(b"$PIREA,17*65\r\n")));
+    assert_eq!(said("PIREA 82 256"), "refused 5 1 1");
+    assert_eq!(said(&format!("line {}", line)), format!("ok GPGSV 1 1 1 1 5{}", " 0".repeat(27)));
+    assert_eq!(said(&format!("field 4 {}", line)), "ok 14 2");
+    assert_eq!(said(&format!("field 8 {}", line)), "refused 4 1 0");
+    assert_eq!(said(&format!("group {}", line)), "ok GP 1 5 0 0 0 0 0 0");
+    assert_eq!(said(&format!("table GP 82 1 5{}", " 0".repeat(251))), format!("ok {}", line));
+    assert_eq!(said(&format!("counts {}", START)), "ok 32 24");
+    let command = words::hex(b"$PIRER,0*40\r\n");
+    let reply = words::hex(b"$PIREA,0*53\r\n");
+    assert_eq!(said(&format!("step 0 82 {} {}", START, command)), format!("ok {} {}", reply, START));
+    assert_eq!(said(&format!("step 0 82 {} -", START)), "refused 1 1 0");
+}
+
+#[test]
+fn signed_numbers_both_ways() {
+    let zda = said("GPZDA 82 1 2830000 1 15 11 2026 1 -30");
+    assert_eq!(zda, format!("ok {}", words::hex(b"$GPZDA,075140.00,15,11,2026,-00,30*4D\r\n")));
+    assert_eq!(said(&zda.replace("ok", "line")), "ok GPZDA 1 2830000 1 15 11 2026 1 -30");
+}
+
+#[test]
+fn rows_that_are_none() {
+    for row in [
+        "",
+        "PIREA",
+        "PIREA 82",
+        "PIREA 82 17 0",
+        " PIREA 82 17",
+        "PIREA -0 17",
+        "GGA 82 17",
+        "group 2",
+        "table",
+        "step",
+        "counts",
+    ] {
+        assert_eq!(said(row), "no row", "{:?}", row);
+    }
+}
+
+#[test]
+fn numbers_of_words() {
+    let cell = |word: &str, cell| Number::of(word.as_bytes()).map(|number| number.in_cell(cell));
+    for none in ["", "-", "+1", "1 ", "--1", "0x1", "1.0"] {
+        assert_eq!(cell(none, Cell::Plain), None, "{:?}", none);
+    }
+    assert_eq!(cell("4294967296", Cell::Plain), Some(u32::MAX));
+    assert_eq!(cell("-1", Cell::Plain), Some(u32::MAX));
+    assert_eq!(cell("-0", Cell::Plain), Some(0));
+    assert_eq!(cell("-2147483649", Cell::Signed), Some(i32::MIN as u32));
+    assert_eq!(cell("2147483648", Cell::Signed), Some(i32::MAX as u32));
+    assert_eq!(cell("0", Cell::Mark), Some(0));
+    assert_eq!(cell("-0", Cell::Mark), Some(1));
+    assert_eq!(cell("9", Cell::Mark), Some(1));
+}
+
+#[test]
+fn a_byte_that_had_to_stay() {
+    let mut lent = Lent::new(10, 5);
+    lent.room().copy_from_slice(b"abcde");
+    assert_eq!(lent.answer(Ok(5)), "ok 6162636465");
+    assert_eq!(lent.answer(Ok(4)), "touched");
+    assert_eq!(lent.answer(Err(Refusal { number: 8, line: 1, field: 0 })), "touched");
+}
+
+/// Gives one byte at a time.
+struct Slow<'a>(&'a [u8]);
+
+impl Read for Slow<'_> {
+    fn read(&mut self, into: &mut [u8]) -> io::Result<usize> {
+        let few = into.len().min(1);
+        self.0.read(&mut into[..few])
+    }
+}
+
+#[test]
+fn input_in_pieces() {
+    let rows = b"PIRER 82\n\nPIREA 82 17\nPIRER 82";
+    let (expected, taken) = answers(rows);
+    assert_eq!((expected.lines().count(), taken), (3, rows.len() - 8));
+    let mut out = Vec::new();
+    assert_eq!(answer_all(&mut Slow(rows), &mut out), Ok(()));
+    assert_eq!(out, expected.as_bytes());
+}
+
+#[test]
+fn a_row_that_is_too_long() {
+    let mut long = vec![b'x'; BUFFER - 1];
+    long.extend_from_slice(b"\nPIRER 82\n");
+    let mut out = Vec::new();
+    assert_eq!(answer_all(&mut &long[..], &mut out), Ok(()));
+    assert!(out.starts_with(b"no row\nok "));
+    long.insert(0, b'x');
+    let mut out = Vec::new();
+    assert!(answer_all(&mut &long[..], &mut out).is_err());
+    assert_eq!(out, b"");
+}
