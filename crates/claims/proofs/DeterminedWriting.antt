@@ -67,7 +67,7 @@ OneFields d at fields = (r q : ℕ) (e f : List ℕ) → PutsFields (held at d) 
 halves : (r q : ℕ) (e f : List ℕ) → held r e ≡ held q f → (r ≡ q) × (e ≡ f)
 halves r q e f p = (ap (λ (h : Held). h .place) p, ap (λ (h : Held). h .bytes) p)
 
-one-put : (d : List ℕ) (at : ℕ) (text : List ℕ) → OnePut d at text
+pub one-put : (d : List ℕ) (at : ℕ) (text : List ℕ) → OnePut d at text
 one-put d at text r q e f p s = halves r q e f (p .is ∙ sym (s .is))
 
 one-fields : (d : List ℕ) (at : ℕ) (fields : List (List ℕ)) → OneFields d at fields

@@ -7,6 +7,7 @@ pub mod Rewriting
 pub mod Writing
 pub mod Lengths
 pub mod DeterminedWriting
+pub mod DeterminedText
 pub mod Skies
 pub mod Commands
 pub mod Replies

@@ -16,9 +16,14 @@ use records::Rmc;
 use records::Sentence;
 use records::Vtg;
 use records::Zda;
+use records::values::Maybe;
 use text::value;
+ghost use Rattle.put.specs.Wrote.{held, Puts};
+ghost use Rattle.dump.specs.Record.{codeToldNumbers, datumAskedNumbers, datumToldNumbers, entriesNumbers, entryNumbers, fixNumbers, ggaNumbers, gllNumbers, gsaNumbers, gsvNumbers, heightNumbers, masksAskedNumbers, masksToldNumbers, portAskedNumbers, portToldNumbers, recordNumbers, rmcNumbers, satelliteNumbers, vtgNumbers, zdaNumbers};
 
-fn put_fix(out: &mut [u8], at: usize, r: Gga) -> usize {
+fn put_fix(out: &mut [u8], at: usize, r: Gga) -> usize
+    ensures { λ n. ⌜ Puts (held at (now (out .entry))) (fixNumbers r) (held n (now (out .exit))) ⌝ }
+{
     let time = r.time;
     let a0 = value::put_maybe(out, at, time);
     let place = r.place;
@@ -30,7 +35,9 @@ fn put_fix(out: &mut [u8], at: usize, r: Gga) -> usize {
     value::put_number(out, a3, hdop)
 }
 
-fn put_heights(out: &mut [u8], at: usize, r: Gga) -> usize {
+fn put_heights(out: &mut [u8], at: usize, r: Gga) -> usize
+    ensures { λ n. ⌜ Puts (held at (now (out .entry))) (heightNumbers r) (held n (now (out .exit))) ⌝ }
+{
     let altitude = r.altitude;
     let a0 = value::put_signed(out, at, altitude);
     let geoid = r.geoid;
@@ -41,12 +48,16 @@ fn put_heights(out: &mut [u8], at: usize, r: Gga) -> usize {
     value::put_maybe(out, a2, station)
 }
 
-fn put_gga(out: &mut [u8], at: usize, r: Gga) -> usize {
+fn put_gga(out: &mut [u8], at: usize, r: Gga) -> usize
+    ensures { λ n. ⌜ Puts (held at (now (out .entry))) (ggaNumbers r) (held n (now (out .exit))) ⌝ }
+{
     let a0 = put_fix(out, at, r);
     put_heights(out, a0, r)
 }
 
-fn put_gll(out: &mut [u8], at: usize, r: Gll) -> usize {
+fn put_gll(out: &mut [u8], at: usize, r: Gll) -> usize
+    ensures { λ n. ⌜ Puts (held at (now (out .entry))) (gllNumbers r) (held n (now (out .exit))) ⌝ }
+{
     let place = r.place;
     let a0 = value::put_place(out, at, place);
     let time = r.time;
@@ -55,7 +66,9 @@ fn put_gll(out: &mut [u8], at: usize, r: Gll) -> usize {
     value::put_value(out, a2, r.mode)
 }
 
-fn put_rmc(out: &mut [u8], at: usize, r: Rmc) -> usize {
+fn put_rmc(out: &mut [u8], at: usize, r: Rmc) -> usize
+    ensures { λ n. ⌜ Puts (held at (now (out .entry))) (rmcNumbers r) (held n (now (out .exit))) ⌝ }
+{
     let time = r.time;
     let a0 = value::put_maybe(out, at, time);
     let a1 = value::put_value(out, a0, r.status);
@@ -72,7 +85,9 @@ fn put_rmc(out: &mut [u8], at: usize, r: Rmc) -> usize {
     value::put_value(out, a6, r.mode)
 }
 
-fn put_vtg(out: &mut [u8], at: usize, r: Vtg) -> usize {
+fn put_vtg(out: &mut [u8], at: usize, r: Vtg) -> usize
+    ensures { λ n. ⌜ Puts (held at (now (out .entry))) (vtgNumbers r) (held n (now (out .exit))) ⌝ }
+{
     let course = r.course;
     let a0 = value::put_number(out, at, course);
     let magnetic = r.magnetic;
@@ -84,7 +99,9 @@ fn put_vtg(out: &mut [u8], at: usize, r: Vtg) -> usize {
     value::put_value(out, a3, r.mode)
 }
 
-fn put_zda(out: &mut [u8], at: usize, r: Zda) -> usize {
+fn put_zda(out: &mut [u8], at: usize, r: Zda) -> usize
+    ensures { λ n. ⌜ Puts (held at (now (out .entry))) (zdaNumbers r) (held n (now (out .exit))) ⌝ }
+{
     let time = r.time;
     let a0 = value::put_maybe(out, at, time);
     let date = r.date;
@@ -93,7 +110,9 @@ fn put_zda(out: &mut [u8], at: usize, r: Zda) -> usize {
     value::put_zone(out, a1, zone)
 }
 
-fn put_port_asked(out: &mut [u8], at: usize, r: PortAsked) -> usize {
+fn put_port_asked(out: &mut [u8], at: usize, r: PortAsked) -> usize
+    ensures { λ n. ⌜ Puts (held at (now (out .entry))) (portAskedNumbers r) (held n (now (out .exit))) ⌝ }
+{
     let port = r.port;
     let a0 = value::put_maybe(out, at, port);
     let rate = r.rate;
@@ -104,60 +123,84 @@ fn put_port_asked(out: &mut [u8], at: usize, r: PortAsked) -> usize {
     value::put_maybe(out, a2, mask)
 }
 
-fn put_datum_asked(out: &mut [u8], at: usize, r: DatumAsked) -> usize {
+fn put_datum_asked(out: &mut [u8], at: usize, r: DatumAsked) -> usize
+    ensures { λ n. ⌜ Puts (held at (now (out .entry))) (datumAskedNumbers r) (held n (now (out .exit))) ⌝ }
+{
     let datum = r.datum;
     let a0 = value::put_maybe(out, at, datum);
     let zone = r.zone;
     value::put_zone(out, a0, zone)
 }
 
-fn put_masks_asked(out: &mut [u8], at: usize, r: MasksAsked) -> usize {
+fn put_masks_asked(out: &mut [u8], at: usize, r: MasksAsked) -> usize
+    ensures { λ n. ⌜ Puts (held at (now (out .entry))) (masksAskedNumbers r) (held n (now (out .exit))) ⌝ }
+{
     let gps = r.gps;
     let a0 = value::put_maybe(out, at, gps);
     let glonass = r.glonass;
     value::put_maybe(out, a0, glonass)
 }
 
-fn put_port_told(out: &mut [u8], at: usize, r: PortTold) -> usize {
+fn put_port_told(out: &mut [u8], at: usize, r: PortTold) -> usize
+    ensures { λ n. ⌜ Puts (held at (now (out .entry))) (portToldNumbers r) (held n (now (out .exit))) ⌝ }
+{
     let a0 = value::put_value(out, at, r.port);
     let a1 = value::put_value(out, a0, r.rate);
     let a2 = value::put_value(out, a1, r.protocol);
     value::put_value(out, a2, r.mask)
 }
 
-fn put_datum_told(out: &mut [u8], at: usize, r: DatumTold) -> usize {
+fn put_datum_told(out: &mut [u8], at: usize, r: DatumTold) -> usize
+    ensures { λ n. ⌜ Puts (held at (now (out .entry))) (datumToldNumbers r) (held n (now (out .exit))) ⌝ }
+{
     let a0 = value::put_value(out, at, r.datum);
     value::put_int(out, a0, r.zone)
 }
 
-fn put_masks_told(out: &mut [u8], at: usize, r: MasksTold) -> usize {
+fn put_masks_told(out: &mut [u8], at: usize, r: MasksTold) -> usize
+    ensures { λ n. ⌜ Puts (held at (now (out .entry))) (masksToldNumbers r) (held n (now (out .exit))) ⌝ }
+{
     let a0 = value::put_value(out, at, r.gps);
     value::put_value(out, a0, r.glonass)
 }
 
-fn put_code_told(out: &mut [u8], at: usize, r: CodeTold) -> usize {
+fn put_code_told(out: &mut [u8], at: usize, r: CodeTold) -> usize
+    ensures { λ n. ⌜ Puts (held at (now (out .entry))) (codeToldNumbers r) (held n (now (out .exit))) ⌝ }
+{
     value::put_value(out, at, r.code)
 }
 
-fn put_gsa(out: &mut [u8], at: usize, r: Gsa) -> usize {
-    let a0 = value::put_value(out, at, r.selection);
-    let mut a = value::put_value(out, a0, r.fix);
-    let satellites = r.satellites;
+fn put_satellites(out: &mut [u8], at: usize, satellites: [Maybe; 12]) -> usize
+    ensures { λ n. ⌜ Puts (held at (now (out .entry))) (satelliteNumbers satellites) (held n (now (out .exit))) ⌝ }
+{
+    let mut a = at;
     let mut i: usize = 0;
     while i < 12 {
         let m = satellites[i];
         a = value::put_maybe(out, a, m);
         i += 1;
     }
-    let pdop = r.pdop;
-    let hdop = r.hdop;
-    let vdop = r.vdop;
-    let a1 = value::put_number(out, a, pdop);
-    let a2 = value::put_number(out, a1, hdop);
-    value::put_number(out, a2, vdop)
+    a
 }
 
-pub fn put_entry(out: &mut [u8], at: usize, e: Entry) -> usize {
+fn put_gsa(out: &mut [u8], at: usize, r: Gsa) -> usize
+    ensures { λ n. ⌜ Puts (held at (now (out .entry))) (gsaNumbers r) (held n (now (out .exit))) ⌝ }
+{
+    let a0 = value::put_value(out, at, r.selection);
+    let a1 = value::put_value(out, a0, r.fix);
+    let satellites = r.satellites;
+    let a2 = put_satellites(out, a1, satellites);
+    let pdop = r.pdop;
+    let a3 = value::put_number(out, a2, pdop);
+    let hdop = r.hdop;
+    let a4 = value::put_number(out, a3, hdop);
+    let vdop = r.vdop;
+    value::put_number(out, a4, vdop)
+}
+
+pub fn put_entry(out: &mut [u8], at: usize, e: Entry) -> usize
+    ensures { λ n. ⌜ Puts (held at (now (out .entry))) (entryNumbers e) (held n (now (out .exit))) ⌝ }
+{
     let elevation = e.elevation;
     let azimuth = e.azimuth;
     let signal = e.signal;
@@ -167,12 +210,10 @@ pub fn put_entry(out: &mut [u8], at: usize, e: Entry) -> usize {
     value::put_maybe(out, a2, signal)
 }
 
-fn put_gsv(out: &mut [u8], at: usize, r: Gsv) -> usize {
-    let a0 = value::put_value(out, at, r.lines);
-    let a1 = value::put_value(out, a0, r.line);
-    let a2 = value::put_value(out, a1, r.satellites);
-    let mut a = value::put_value(out, a2, r.count);
-    let entries = r.entries;
+fn put_entries(out: &mut [u8], at: usize, entries: [Entry; 4]) -> usize
+    ensures { λ n. ⌜ Puts (held at (now (out .entry))) (entriesNumbers entries) (held n (now (out .exit))) ⌝ }
+{
+    let mut a = at;
     let mut i: usize = 0;
     while i < 4 {
         let e = entries[i];
@@ -182,8 +223,21 @@ fn put_gsv(out: &mut [u8], at: usize, r: Gsv) -> usize {
     a
 }
 
+fn put_gsv(out: &mut [u8], at: usize, r: Gsv) -> usize
+    ensures { λ n. ⌜ Puts (held at (now (out .entry))) (gsvNumbers r) (held n (now (out .exit))) ⌝ }
+{
+    let a0 = value::put_value(out, at, r.lines);
+    let a1 = value::put_value(out, a0, r.line);
+    let a2 = value::put_value(out, a1, r.satellites);
+    let a3 = value::put_value(out, a2, r.count);
+    let entries = r.entries;
+    put_entries(out, a3, entries)
+}
+
 // Puts the numbers of the record of a sentence that was read; of a refused one there are none.
-pub fn put_record(out: &mut [u8], at: usize, reading: Reading) -> usize {
+pub fn put_record(out: &mut [u8], at: usize, reading: Reading) -> usize
+    ensures { λ n. ⌜ Puts (held at (now (out .entry))) (recordNumbers reading) (held n (now (out .exit))) ⌝ }
+{
     let sentence = reading.sentence;
     let gsa = reading.gsa;
     let gsv = reading.gsv;

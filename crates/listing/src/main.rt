@@ -11,14 +11,6 @@ struct Listed {
     written: bool,
 }
 
-// Writes what `out` holds up to `place`.
-fn flush(out: &[u8], place: usize) -> bool {
-    if place <= out.len() {
-        return io::write_all(STDOUT_FILENO, &out[0..place]);
-    }
-    false
-}
-
 // Whether the next row may not fit into `out` from `place` on.
 fn is_full(out: &[u8], place: usize) -> bool {
     if out.len() <= place {
@@ -43,7 +35,7 @@ fn list_lines(s: &[u8], out: &mut [u8], rows: u64, dumps: bool) -> Listed {
         let found = finder::next_line(s, at);
         let start = found.start;
         if !found.line {
-            written = written & flush(out, place);
+            written = written & turns::flush(STDOUT_FILENO, out, place);
             return Listed {
                 from: start,
                 rows: number,
@@ -54,26 +46,11 @@ fn list_lines(s: &[u8], out: &mut [u8], rows: u64, dumps: bool) -> Listed {
         number = rows::next(number);
         place = list_line(out, place, number, &s[start..end], dumps);
         if is_full(out, place) {
-            written = written & flush(out, place);
+            written = written & turns::flush(STDOUT_FILENO, out, place);
             place = 0;
         }
         at = end;
     }
-}
-
-// Moves the bytes of `buf` from `a` up to `e` to its start, and answers how many they are.
-fn keep(buf: &mut [u8], a: usize, e: usize) -> usize {
-    let mut i: usize = 0;
-    let mut from = a;
-    while from < e {
-        if buf.len() <= from {
-            return i;
-        }
-        buf[i] = buf[from];
-        i += 1;
-        from += 1;
-    }
-    i
 }
 
 // What one turn of reading leaves: whether to go on, the bytes kept at the start of the buffer, and
@@ -114,7 +91,7 @@ fn take_turn(buf: &mut [u8], out: &mut [u8], kept: usize, rows: u64, dumps: bool
     let from = listed.from;
     Turn {
         more: true,
-        kept: keep(buf, from, n),
+        kept: turns::keep(buf, from, n),
         rows: listed.rows,
     }
 }
@@ -122,17 +99,17 @@ fn take_turn(buf: &mut [u8], out: &mut [u8], kept: usize, rows: u64, dumps: bool
 // A proved loop has to end, and nothing says that the input does: so the turns are counted down
 // from a number that no run uses up.
 fn list_all(buf: &mut [u8], out: &mut [u8], dumps: bool) {
-    let mut turns = u64::MAX;
+    let mut left = u64::MAX;
     let mut kept: usize = 0;
     let mut rows: u64 = 0;
-    while 0 < turns {
+    while 0 < left {
         let t = take_turn(buf, out, kept, rows, dumps);
         if !t.more {
             return;
         }
         kept = t.kept;
         rows = t.rows;
-        turns -= 1;
+        left -= 1;
     }
 }
 

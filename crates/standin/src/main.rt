@@ -9,33 +9,33 @@ use sealing::Written;
 // Puts what a number of refusal means.
 fn put_meaning(out: &mut [u8], at: usize, no: u8) -> usize {
     match no {
-        1 => text::put_bytes(out, at, b"the line rule fails"),
-        2 => text::put_bytes(out, at, b"the two digits differ from the XOR of the body"),
-        3 => text::put_bytes(out, at, b"the address is unknown"),
-        4 => text::put_bytes(out, at, b"the command does not have so many fields"),
-        5 => text::put_bytes(out, at, b"a field is not of its form or range"),
-        8 => text::put_bytes(out, at, b"the output is shorter than the reply"),
-        9 => text::put_bytes(out, at, b"the sentence is not a command"),
-        10 => text::put_bytes(out, at, b"the protocol of the port is not 4"),
-        _ => text::put_bytes(out, at, b"no meaning is known"),
+        1 => put::put_bytes(out, at, b"the line rule fails"),
+        2 => put::put_bytes(out, at, b"the two digits differ from the XOR of the body"),
+        3 => put::put_bytes(out, at, b"the address is unknown"),
+        4 => put::put_bytes(out, at, b"the command does not have so many fields"),
+        5 => put::put_bytes(out, at, b"a field is not of its form or range"),
+        8 => put::put_bytes(out, at, b"the output is shorter than the reply"),
+        9 => put::put_bytes(out, at, b"the sentence is not a command"),
+        10 => put::put_bytes(out, at, b"the protocol of the port is not 4"),
+        _ => put::put_bytes(out, at, b"no meaning is known"),
     }
 }
 
 fn put_numbers(out: &mut [u8], at: usize, w: Written) -> usize {
-    let a1 = text::put_bytes(out, at, b"refused ");
+    let a1 = put::put_bytes(out, at, b"refused ");
     let a2 = text::put_number(out, a1, w.no as u64);
-    let a3 = text::put_bytes(out, a2, b" ");
+    let a3 = put::put_bytes(out, a2, b" ");
     let a4 = text::put_number(out, a3, w.line as u64);
-    let a5 = text::put_bytes(out, a4, b" ");
+    let a5 = put::put_bytes(out, a4, b" ");
     text::put_number(out, a5, w.field as u64)
 }
 
 // Puts the row of a refusal, ended by LF.
 fn put_refusal(out: &mut [u8], w: Written) -> usize {
     let a1 = put_numbers(out, 0, w);
-    let a2 = text::put_bytes(out, a1, b": ");
+    let a2 = put::put_bytes(out, a1, b": ");
     let a3 = put_meaning(out, a2, w.no);
-    text::put_bytes(out, a3, b"\n")
+    put::put_bytes(out, a3, b"\n")
 }
 
 fn say_refusal(w: Written) {

@@ -111,7 +111,7 @@ pub fn time(out: &mut [u8], at: usize, there: bool, v: u32) -> usize
 }
 
 // The minus of a value that is less than zero.
-pub(crate) fn put_sign(out: &mut [u8], at: usize, z: i32) -> usize
+pub fn put_sign(out: &mut [u8], at: usize, z: i32) -> usize
     ensures { λ r. ⌜ Puts (held at (now (out .entry))) (signText z) (held r (now (out .exit))) ⌝ }
 {
     if z < 0 {

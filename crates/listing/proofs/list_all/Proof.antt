@@ -6,10 +6,10 @@ use Rattle.listing.proofs.list_all.Statement.{statement}
 use Rattle.listing.proofs.list_all.Tie as tie
 
 abbrev Inv-loop : tie.InvT-loop
-Inv-loop buf₀ out₀ dumps turns₀ kept₀ rows₀ buf out turns kept rows = (length buf ≡ length buf₀) × (length out ≡ length out₀)
+Inv-loop buf₀ out₀ dumps left₀ kept₀ rows₀ buf out left kept rows = (length buf ≡ length buf₀) × (length out ≡ length out₀)
 
 abbrev μ-loop : tie.MeasureT-loop
-μ-loop buf₀ out₀ dumps turns₀ kept₀ rows₀ buf out turns kept rows = turns
+μ-loop buf₀ out₀ dumps left₀ kept₀ rows₀ buf out left kept rows = left
 
 pub list-all-spec : {M : Type 1} → statement M
 list-all-spec =

@@ -1,0 +1,12 @@
+-- Each value of the record, one after another.
+use Rattle.put.proofs.Chain.{_⨾_}
+use borrow.Author.Needs.{needs}
+use Rattle.dump.proofs.put_zda.Statement.{statement}
+use Rattle.dump.proofs.put_zda.Tie as tie
+
+returns : tie.Need-returns
+returns c = c .before .before .before .before .before .before .before .before .before .before .before .before .put-maybe .ensures ⨾ c .before .before .before .before .before .before .before .put-date .ensures ⨾ c .before .before .put-zone .ensures
+
+pub put-zda-spec : {M : Type 1} → statement M
+put-zda-spec =
+    tie.close (tie.spec (λ c κs. search needs) (λ c κs. search needs) (λ c κs. search needs) (λ c. search needs) returns)

@@ -1,0 +1,19 @@
+-- What the programs that read in turns do with their buffers.
+use Prim.Native.Nat.{ℕ, _-_, _<_}
+use mathlib.Core.Path.{_≡_}
+use mathlib.Core.List.{List, _++_}
+use mathlib.Core.Bool.{Bool, false}
+use lib.ListN.{length, take, drop}
+
+-- The bytes from place a up to place e; none where e is not past a, and no more than there are.
+abbrev pub part : ℕ → ℕ → List ℕ → List ℕ
+part a e buf = take (e - a) (drop a buf)
+
+-- These bytes moved to the start of the buffer, how many they are, and the bytes behind them as they were.
+pub record Keeps (a e : ℕ) (buf : List ℕ) (count : ℕ) (left : List ℕ) : Type 0 where
+  pub many : count ≡ length (part a e buf)
+  pub bytes : left ≡ part a e buf ++ drop count buf
+
+-- What is not in the buffer is not written. Of a write within it nothing is known but that it was tried.
+pub record Flushes (out : List ℕ) (place : ℕ) (answer : Bool) : Type 0 where
+  pub beyond : length out < place → answer ≡ false
