@@ -21,7 +21,7 @@ use Rattle.receiver.specs.declared.Done.{Done}
 use Rattle.receiver.specs.declared.Port.{Port}
 use Rattle.receiver.specs.declared.Settings.{Settings}
 use Rattle.receiver.specs.Settings.{portOf, withPort, settingsGood, countsOf}
-use Rattle.receiver.specs.Command.{Outcome, refuses, replies, namedPort, afterPort, afterDatum, afterMasks, portTold, sentenceOutcome, answerOf, settingsAfter, outputAfter, Does}
+use Rattle.receiver.specs.Command.{Outcome, refuses, replies, namedPort, portAsked, afterPort, afterDatum, afterMasks, portTold, sentenceOutcome, answerOf, settingsAfter, outputAfter, Does}
 
 -- A refused command leaves the settings and every byte of the output; so 8 is decided before anything changes.
 refused-settings : (s : Settings) (o : Outcome) (room : ℕ) → (answerOf o room .no ≡ 0 → ⊥) → settingsAfter s o room ≡ s
@@ -57,7 +57,7 @@ replied : (s after : Settings) (fault : Written) (body : List ℕ) (room : ℕ) 
 replied s after fault body room e = ap (λ (x : Settings). pick (eqb (writtenOf fault body room .no) 0) x s) e ∙ pick-same (eqb (writtenOf fault body room .no) 0) s
 
 pub port-question : (s : Settings) (p : ℕ) (r : PortAsked) (room : ℕ) → r .rate .there ≡ false → settingsAfter s (sentenceOutcome s p (S.Pr r)) room ≡ s
-port-question s p r room e = replied s (afterPort s p r) _ _ room (ap (λ (b : Bool). pick b (withPort s (namedPort p r) (record { rate = r .rate .value; protocol = r .protocol .value; mask = r .mask .value })) s) e)
+port-question s p r room e = replied s (afterPort s p r) _ _ room (ap (λ (b : Bool). pick b (withPort s (namedPort p r) (portAsked r)) s) e)
 
 pub datum-question : (s : Settings) (p : ℕ) (r : DatumAsked) (room : ℕ) → r .datum .there ≡ false → settingsAfter s (sentenceOutcome s p (S.Tr r)) room ≡ s
 datum-question s p r room e = replied s (afterDatum s r) _ _ room (rw e)
@@ -96,8 +96,8 @@ same-with (suc n) s p = record { other = suc-other; datum = refl; zone = refl; g
 pub only-the-named-port : (s : Settings) (p : ℕ) (r : PortAsked) (room : ℕ) → SameButPort (namedPort p r) s (settingsAfter s (sentenceOutcome s p (S.Pr r)) room)
 only-the-named-port s p r room = go (eqb (writtenOf (faultAt (pirpaWrong (portTold (afterPort s p r) (namedPort p r)))) (pirpaBody (portTold (afterPort s p r) (namedPort p r))) room .no) 0) (r .rate .there)
   where
-    go : (b there : Bool) → SameButPort (namedPort p r) s (pick b (pick there (withPort s (namedPort p r) (record { rate = r .rate .value; protocol = r .protocol .value; mask = r .mask .value })) s) s)
-    go true true = same-with (namedPort p r) s (record { rate = r .rate .value; protocol = r .protocol .value; mask = r .mask .value })
+    go : (b there : Bool) → SameButPort (namedPort p r) s (pick b (pick there (withPort s (namedPort p r) (portAsked r)) s) s)
+    go true true = same-with (namedPort p r) s (portAsked r)
     go true false = same-all (namedPort p r) s
     go false there = same-all (namedPort p r) s
 

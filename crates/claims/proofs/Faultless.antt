@@ -30,8 +30,8 @@ use Rattle.writecom.specs.Pirtr.{pirtrWrong}
 use Rattle.receiver.specs.declared.Port.{Port}
 use Rattle.receiver.specs.declared.Settings.{Settings}
 use Rattle.receiver.specs.Settings.{portOf, withPort, portGood, settingsGood}
-use Rattle.receiver.specs.Command.{Outcome, refuses, replies, namedPort, afterPort, afterDatum, afterMasks, portTold, datumTold, masksTold, codeTold, sentenceOutcome, outcomeOf}
-use Rattle.claims.proofs.Replies.{InRange, in-range}
+use Rattle.receiver.specs.Command.{Outcome, refuses, replies, namedPort, portAsked, afterPort, afterDatum, afterMasks, portTold, datumTold, masksTold, codeTold, sentenceOutcome, outcomeOf}
+use Rattle.claims.proofs.Replies.{InRange, in-range, port-set}
 use Rattle.claims.proofs.Rewriting.{Writable}
 use Rattle.claims.proofs.Writing as Writing
 
@@ -71,10 +71,7 @@ port-good n q e g =
     let g1 = and-right (eqb (outside 1200 115200 (q .rate)) 0) _ g in
     zero-all _ (e, (eqb-true (outside 1200 115200 (q .rate)) 0 (and-left _ _ g), (eqb-true (outside 0 4 (q .protocol)) 0 (and-left _ _ g1), (eqb-true (portWrong true (q .mask)) 0 (and-right (eqb (outside 0 4 (q .protocol)) 0) _ g1), tt))))
 
-abbrev asked : PortAsked → Port
-asked r = record { rate = r .rate .value; protocol = r .protocol .value; mask = r .mask .value }
-
-asked-good : (r : PortAsked) → pirprWrong r ≡ 0 → r .rate .there ≡ true → portGood (asked r) ≡ true
+asked-good : (r : PortAsked) → pirprWrong r ≡ 0 → r .rate .there ≡ true → portGood (portAsked r) ≡ true
 unfolding pirprWrong portGood rangeWrong
 asked-good r e t =
     let z = all-zero _ e in
@@ -85,16 +82,12 @@ asked-good r e t =
     let mask : portWrong true (r .mask .value) ≡ 0 = sym (ap (λ (x : Bool). portWrong x (r .mask .value)) (sym (b .0) ∙ t)) ∙ b .1 in
     rw (rate, protocol, mask)
 
-port-told : (n : ℕ) (s : Settings) (q : Port) → portOf (withPort s n q) n ≡ q
-port-told zero s q = refl
-port-told (suc n) s q = refl
-
 port-faultless : (s : Settings) (p : ℕ) (r : PortAsked) → InRange s → p < 2 → pirprWrong r ≡ 0 → pirpaWrong (portTold (afterPort s p r) (namedPort p r)) ≡ 0
 unfolding pirprWrong
 port-faultless s p r g h e = port-good (namedPort p r) (portOf (afterPort s p r) (namedPort p r)) (named-in p r h (all-zero _ e .0)) (go (r .rate .there) refl)
   where
-    go : (b : Bool) → r .rate .there ≡ b → portGood (portOf (pick b (withPort s (namedPort p r) (asked r)) s) (namedPort p r)) ≡ true
-    go true t = ap portGood (port-told (namedPort p r) s (asked r)) ∙ asked-good r e t
+    go : (b : Bool) → r .rate .there ≡ b → portGood (portOf (pick b (withPort s (namedPort p r) (portAsked r)) s) (namedPort p r)) ≡ true
+    go true t = ap portGood (port-set (namedPort p r) s (portAsked r)) ∙ asked-good r e t
     go false t = told-of s (namedPort p r) g
 
 datum-faultless : (s : Settings) (r : DatumAsked) → InRange s → pirtrWrong r ≡ 0 → pirtaWrong (datumTold (afterDatum s r)) ≡ 0

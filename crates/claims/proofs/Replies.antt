@@ -26,7 +26,7 @@ use Rattle.receiver.specs.declared.Done.{Done}
 use Rattle.receiver.specs.declared.Port.{Port}
 use Rattle.receiver.specs.declared.Settings.{Settings}
 use Rattle.receiver.specs.Settings.{portOf, withPort, portGood, settingsGood}
-use Rattle.receiver.specs.Command.{refuses, replies, namedPort, afterPort, afterDatum, afterMasks, portTold, datumTold, masksTold, codeTold, sentenceOutcome, outcomeOf, settingsAfter, Does}
+use Rattle.receiver.specs.Command.{refuses, replies, namedPort, portAsked, afterPort, afterDatum, afterMasks, portTold, datumTold, masksTold, codeTold, sentenceOutcome, outcomeOf, settingsAfter, Does}
 use Rattle.claims.proofs.Writing as Writing
 
 -- A command that replies, and answers a length.
@@ -98,19 +98,16 @@ with-in : (n : ℕ) (s : Settings) (q : Port) → InRange s → portGood q ≡ t
 with-in zero s q g e = record { first = e; second = g .second; datum = g .datum; zone = g .zone; gps = g .gps; glonass = g .glonass; code = g .code }
 with-in (suc n) s q g e = record { first = g .first; second = e; datum = g .datum; zone = g .zone; gps = g .gps; glonass = g .glonass; code = g .code }
 
-port-told : (n : ℕ) (s : Settings) (q : Port) → portTold (withPort s n q) n ≡ record { port = n; rate = q .rate; protocol = q .protocol; mask = q .mask }
-port-told zero s q = refl
-port-told (suc n) s q = refl
-
--- What PIRPR sets a port to.
-abbrev asked : PortAsked → Port
-asked r = record { rate = r .rate .value; protocol = r .protocol .value; mask = r .mask .value }
+-- A port that was set has what it was set to.
+pub port-set : (n : ℕ) (s : Settings) (q : Port) → portOf (withPort s n q) n ≡ q
+port-set zero s q = refl
+port-set (suc n) s q = refl
 
 after-port-in : (s : Settings) (p : ℕ) (r : PortAsked) → InRange s → pirpaWrong (portTold (afterPort s p r) (namedPort p r)) ≡ 0 → InRange (afterPort s p r)
 after-port-in s p r g e = go (r .rate .there) e
   where
-    go : (b : Bool) → pirpaWrong (portTold (pick b (withPort s (namedPort p r) (asked r)) s) (namedPort p r)) ≡ 0 → InRange (pick b (withPort s (namedPort p r) (asked r)) s)
-    go true i = with-in (namedPort p r) s (asked r) g (port-in (namedPort p r) (asked r) (ap pirpaWrong (sym (port-told (namedPort p r) s (asked r))) ∙ i))
+    go : (b : Bool) → pirpaWrong (portTold (pick b (withPort s (namedPort p r) (portAsked r)) s) (namedPort p r)) ≡ 0 → InRange (pick b (withPort s (namedPort p r) (portAsked r)) s)
+    go true i = with-in (namedPort p r) s (portAsked r) g (port-in (namedPort p r) (portAsked r) (ap (λ (q : Port). pirpaWrong (record { port = namedPort p r; rate = q .rate; protocol = q .protocol; mask = q .mask })) (sym (port-set (namedPort p r) s (portAsked r))) ∙ i))
     go false i = g
 
 after-datum-in : (s : Settings) (r : DatumAsked) → InRange s → pirtaWrong (datumTold (afterDatum s r)) ≡ 0 → InRange (afterDatum s r)

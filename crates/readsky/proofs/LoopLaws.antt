@@ -25,12 +25,13 @@ use Rattle.sky.specs.Group.{whole, refused, usedOf, entriesOf, rule, ended, gro
 use Rattle.sky.specs.Sky.{refusedSky, skyOf}
 use Rattle.sky.proofs.Damage.{line-first}
 use Rattle.sky.proofs.MarkLaws.{marks-none}
+use Rattle.sky.proofs.Numbers.{room}
 use Rattle.readsky.specs.declared.Head.{Head}
 use Rattle.readsky.specs.declared.Next.the-variants.{Taken, Stop}
 use Rattle.readsky.specs.declared.Stepped.{Stepped}
 use Rattle.readsky.specs.Steps.{Sound, Before, IsTaken, Steps, seenIf, seenOf, notBegun, stepOf, endIf, skyEnd}
 use Rattle.readsky.proofs.Placing.{padded, placed, used-length}
-use Rattle.readsky.proofs.Sizes.{Begun, Size, SizeIf, Sized, headOf, enough, follows-sized}
+use Rattle.readsky.proofs.Sizes.{Begun, Size, SizeIf, Sized, headOf, follows-sized}
 use Rattle.readsky.proofs.SoundLaws.{sound}
 
 pub record Going (s : List ℕ) (entries : List Entry) (seen : List ℕ) (head : Head) (at k : ℕ) : Type 0 where
@@ -148,7 +149,7 @@ module _ (s : List ℕ) (entries : List Entry) (seen : List ℕ) (head : Head) (
   end-by z false q = refl
   end-by z true q =
       let last = eqb-true (head .lines + 1) k q in
-      let all : head .satellites ≡ length (g .es) = omega (arith, last, z .least, z .announced, enough (head .satellites)) in
+      let all : head .satellites ≡ length (g .es) = omega (arith, last, z .least, z .announced, room (head .satellites)) in
       ap (λ (n : ℕ). record { no = 0; line = 0; field = 0; talker = Of (head .talker); table = record { count = n; entries = entries } }) all
       ∙ ap (λ (l : List Entry). record { no = 0; line = 0; field = 0; talker = Of (head .talker); table = record { count = length (g .es); entries = l } }) (g .places)
 

@@ -1,39 +1,19 @@
 -- How many entries a group has before each line: four a line, until all its satellites are there.
-use Prim.Native.Nat.{ℕ, _+_, _-_, _*_, _/_, _≤_}
-use mathlib.Core.Path.{_≡_, refl, sym, _∙_, ap}
-use mathlib.Core.Bool.{Bool, true, false, _&&_, cond}
+use Prim.Native.Nat.{ℕ, _+_, _-_, _*_, _≤_}
+use mathlib.Core.Path.{_≡_, sym, _∙_, ap}
+use mathlib.Core.Bool.{Bool, true, false, _&&_}
 use mathlib.Core.List.{List}
 use native.Mathlib.Omega.{arith}
-use lib.Dec.{eqb, ltb, leb}
-use borrow.Author.Tests.{eqb-true, leb-true, ltb-true, ltb-false}
+use lib.Dec.{eqb, leb}
+use borrow.Author.Tests.{eqb-true, leb-true}
 use Rattle.digits.proofs.Bools.{and-left, and-right}
 use Rattle.address.specs.declared.Talker.{Talker}
 use Rattle.records.specs.declared.Entry.{Entry}
 use Rattle.records.specs.declared.Gsv.{Gsv}
 use Rattle.sky.specs.Group.{linesFor, entriesAt, inPlace, sameTalker, follows}
+use Rattle.sky.proofs.Numbers.{starts, entries-at}
 use Rattle.readsky.specs.declared.Head.{Head}
 use Rattle.readsky.specs.Steps.{Sound, seenIf, seenOf}
-
--- The lines that so many satellites take: enough, and each but the last full.
-lines-by : (n : ℕ) (z : Bool) → eqb n 0 ≡ z → (n ≤ 4 * cond z 1 ((n + 3) / 4)) × (4 * cond z 1 ((n + 3) / 4) ≤ n + 4)
-lines-by n true q = let e = eqb-true n 0 q in (omega (arith, e), omega (arith, e))
-lines-by n false q = (omega arith, omega arith)
-
-pub enough : (n : ℕ) → n ≤ 4 * linesFor n
-unfolding linesFor
-enough n = lines-by n (eqb n 0) refl .0
-
-pub full : (n : ℕ) → 4 * linesFor n ≤ n + 4
-unfolding linesFor
-full n = lines-by n (eqb n 0) refl .1
-
-entries-by : (n k : ℕ) (z : Bool) → ltb 4 (n - 4 * (k - 1)) ≡ z → cond z 4 (n - 4 * (k - 1)) ≡ n - 4 * (k - 1) - (n - 4 * (k - 1) - 4)
-entries-by n k true q = let e = ltb-true 4 (n - 4 * (k - 1)) q in omega (arith, e)
-entries-by n k false q = let e = ltb-false 4 (n - 4 * (k - 1)) q in omega (arith, e)
-
-pub entries-least : (n k : ℕ) → entriesAt n k ≡ n - 4 * (k - 1) - (n - 4 * (k - 1) - 4)
-unfolding entriesAt
-entries-least n k = entries-by n k (ltb 4 (n - 4 * (k - 1))) refl
 
 -- Before line k: no line yet, or k - 1 of the announced ones with the smaller of 4(k-1) and all satellites.
 pub record Begun (h : Head) (k n : ℕ) : Type 0 where
@@ -94,7 +74,7 @@ module _ (k n : ℕ) (t : Talker) (v : Gsv) (sound : Sound v) where
   sized : InPlace k v → v .lines ≡ linesFor (v .satellites) → n ≡ 4 * (k - 1) - (4 * (k - 1) - v .satellites) → Sized k n t v
   sized p a m =
       let one : 1 ≤ k = omega (arith, p .here, sound .from-one) in
-      let before : 4 * (k - 1) ≤ v .satellites = omega (arith, p .in-time, a, full (v .satellites), one) in
+      let before : 4 * (k - 1) ≤ v .satellites = starts (v .satellites) k one (omega (arith, p .in-time, a)) in
       let behind : n ≡ 4 * (k - 1) = omega (arith, m, before) in
       record {
         from-one = one;
@@ -107,7 +87,7 @@ module _ (k n : ℕ) (t : Talker) (v : Gsv) (sound : Sound v) where
           within = omega (arith, p .in-time);
           least =
               ap (λ (x : ℕ). x + v .count) behind
-              ∙ least-next (4 * (k - 1)) (v .satellites) (v .count) before (p .counted ∙ entries-least (v .satellites) k)
+              ∙ least-next (4 * (k - 1)) (v .satellites) (v .count) before (p .counted ∙ entries-at (v .satellites) k)
               ∙ ap (λ (x : ℕ). x - (x - v .satellites)) (next-place k one);
         };
       }

@@ -23,6 +23,7 @@ use Rattle.writecom.specs.Pirpa.{pirpaWrong, pirpaBody}
 use Rattle.writecom.specs.Pirsa.{pirsaWrong, pirsaBody}
 use Rattle.writecom.specs.Pirta.{pirtaWrong, pirtaBody}
 use Rattle.receiver.specs.declared.Done.{Done}
+use Rattle.receiver.specs.declared.Port.{Port}
 use Rattle.receiver.specs.declared.Settings.{Settings}
 use Rattle.receiver.specs.Settings.{portOf, withPort, settingsGood}
 
@@ -30,11 +31,11 @@ use Rattle.receiver.specs.Settings.{portOf, withPort, settingsGood}
 abbrev pub namedPort : ℕ → PortAsked → ℕ
 namedPort arrival r = cond (r .port .there) (r .port .value) arrival
 
+abbrev pub portAsked : PortAsked → Port
+portAsked r = record { rate = r .rate .value; protocol = r .protocol .value; mask = r .mask .value }
+
 abbrev pub afterPort : Settings → ℕ → PortAsked → Settings
-afterPort s arrival r =
-    pick (r .rate .there)
-    (withPort s (namedPort arrival r) (record { rate = r .rate .value; protocol = r .protocol .value; mask = r .mask .value }))
-    s
+afterPort s arrival r = pick (r .rate .there) (withPort s (namedPort arrival r) (portAsked r)) s
 
 -- PIRTR: an empty datum is a question.
 abbrev pub afterDatum : Settings → DatumAsked → Settings

@@ -167,7 +167,7 @@ impl Settings {
     // PIRPR: sets the named port, or the one that the command arrived on, or, with no rate, asks about it. The
     // reply is PIRPA of that port. Refused: 5 at the first value that is out of its range after it, 8 where
     // `out` is shorter than the reply.
-    pub fn port(self, arrival: u32, r: PortAsked, out: &mut [u8]) -> Done
+    fn port(self, arrival: u32, r: PortAsked, out: &mut [u8]) -> Done
         ensures { λ d. ⌜ Does self (portReply (afterPort self arrival r) (namedPort arrival r)) (now (out .entry)) d (now (out .exit)) ⌝ }
     {
         let new = after_port(self, arrival, r);
@@ -177,7 +177,7 @@ impl Settings {
     }
 
     // PIRTR: sets datum and zone, or, with no datum, asks about them. The reply is PIRTA.
-    pub fn place(self, r: DatumAsked, out: &mut [u8]) -> Done
+    fn place(self, r: DatumAsked, out: &mut [u8]) -> Done
         ensures { λ d. ⌜ Does self (datumReply (afterDatum self r)) (now (out .entry)) d (now (out .exit)) ⌝ }
     {
         let new = after_datum(self, r);
@@ -187,7 +187,7 @@ impl Settings {
     }
 
     // PIRSR: sets the satellite masks that are there. The reply is PIRSA.
-    pub fn satellites(self, r: MasksAsked, out: &mut [u8]) -> Done
+    fn satellites(self, r: MasksAsked, out: &mut [u8]) -> Done
         ensures { λ d. ⌜ Does self (masksReply (afterMasks self r)) (now (out .entry)) d (now (out .exit)) ⌝ }
     {
         let new = after_masks(self, r);
@@ -200,7 +200,7 @@ impl Settings {
     }
 
     // PIRER: asks for the self-test code, which does not change. The reply is PIREA.
-    pub fn test(self, out: &mut [u8]) -> Done
+    fn test(self, out: &mut [u8]) -> Done
         ensures { λ d. ⌜ Does self (codeReply self) (now (out .entry)) d (now (out .exit)) ⌝ }
     {
         let told = CodeTold { code: self.code };

@@ -35,10 +35,6 @@ mark-test : (b : Bool) (m : ℕ) → m ≡ cond b 1 0 → eqb m 1 ≡ b
 mark-test true m e = eq-eqb m 1 e
 mark-test false m e = ne-eqb m 1 (λ q. omega (arith, e))
 
-or-none : (a : Bool) → (a || false) ≡ a
-or-none true = refl
-or-none false = refl
-
 or-true : (b c : Bool) → c ≡ true → (b || c) ≡ true
 or-true true c e = refl
 or-true false c e = e

@@ -24,8 +24,9 @@ use Rattle.writesat.specs.Gsv.{entryAfters, entryOf, gsvWrong, isBlank, restBla
 use Rattle.sky.specs.Group.{linesFor, entriesAt, usedOf}
 use Rattle.sky.specs.Sky.{tableOf}
 use Rattle.sky.specs.Table.{entryWrong, lineAt}
+use Rattle.sky.proofs.Numbers.{nine-lines, some-line, starts}
 use Rattle.tripssky.proofs.InRange.{EachGood, good-drop}
-use Rattle.tripssky.proofs.Numbers.{next-four, nine-lines, some-line, starts}
+use Rattle.tripssky.proofs.Numbers.{next-four}
 
 -- So many places, filled up with blank ones.
 abbrev pub filled : ℕ → List Entry → List Entry

@@ -28,9 +28,9 @@ use Rattle.sky.specs.declared.Table.{Table}
 use Rattle.sky.specs.Group.{whole, Seen, linesFor, entriesAt, talkerNo, sameTalker, inPlace, follows, repeats, usedOf, entriesOf, gsvRule, ruled, rule, ended, groupOf}
 use Rattle.sky.specs.Sky.{tableOf}
 use Rattle.sky.specs.Table.{tableFault, lineAt, linesFrom, groupText}
+use Rattle.sky.proofs.Numbers.{room, some-line}
 use Rattle.tripssky.proofs.InRange.{InRange, once-behind, once-front, used-in-range, of-used}
 use Rattle.tripssky.proofs.LineGood.{filled-many, theLine, line-is, line-used, line-good}
-use Rattle.tripssky.proofs.Numbers.{room, some-line}
 use Rattle.tripssky.proofs.Took.{answerFrom, read-on}
 
 -- A line that reads as a GSV sentence passed the line rule.

@@ -26,9 +26,10 @@ use Rattle.writesat.specs.Gsv.{gsvBody}
 use Rattle.sky.specs.Group.{whole, refused, linesFor, entriesAt, repeats, usedOf, ended, groupOf}
 use Rattle.sky.specs.Sky.{tableOf}
 use Rattle.sky.specs.Table.{tableFault, lineAt, linesFrom, groupText}
+use Rattle.sky.proofs.Numbers.{entries-at, few-satellites, room, starts}
 use Rattle.tripssky.proofs.InRange.{EachGood, InRange, good-append, once-append, table-good}
 use Rattle.tripssky.proofs.LineGood.{filled, filled-more, used-good, used-places, at-most-nine, line-is}
-use Rattle.tripssky.proofs.Numbers.{entries-at, few-satellites, room, so-many, starts}
+use Rattle.tripssky.proofs.Numbers.{so-many}
 use Rattle.tripssky.proofs.Took.{Line, answerFrom, no-whole, seenSo, first-line, next-line}
 
 -- What holds of the entries that were seen before line k of n satellites: the first four times k - 1, or all.

@@ -1,16 +1,17 @@
 -- How many lines and entries up to 36 satellites take, in numbers, and which of a table's places a line's entries are.
-use Prim.Native.Nat.{ℕ, zero, suc, _+_, _-_, _*_, _/_, _≤_, _<_}
+use Prim.Native.Nat.{ℕ, zero, suc, _+_, _-_, _*_, _≤_, _<_}
 use mathlib.Core.Path.{_≡_, refl, sym, _∙_, ap}
 use mathlib.Core.List.{List, [], _∷_, map}
-use mathlib.Core.Bool.{Bool, true, false, cond}
+use mathlib.Core.Bool.{Bool, true, false}
 use native.Mathlib.Omega.{arith}
 use native.Mathlib.Nat.{add-zero}
-use lib.Dec.{eqb, ltb, lit<}
+use lib.Dec.{ltb, lit<}
 use lib.ListN.{length, getD, take, drop, length-take, length-drop, length-map}
 use lib.Seq.{take-all, take-take, take-nil, drop-nil, length-take-le, getD-take, getD-drop}
-use borrow.Author.Tests.{eqb-true, eqb-false, ltb-true, ltb-false}
+use borrow.Author.Tests.{ltb-true, ltb-false}
 use Rattle.tripssat.proofs.Lists.{all-four}
 use Rattle.sky.specs.Group.{linesFor, entriesAt}
+use Rattle.sky.proofs.Numbers.{some-line, nine-lines, room, entries-at}
 
 -- At least one line, enough lines for all, and nine for 36.
 pub record Lines (n m : ℕ) : Type 0 where
@@ -19,18 +20,7 @@ pub record Lines (n m : ℕ) : Type 0 where
   pub nine : n ≤ 36 → m ≤ 9
 
 pub lines-are : (n : ℕ) → Lines n (linesFor n)
-unfolding linesFor
-lines-are n = go (eqb n 0) refl
-  where
-    go : (t : Bool) → eqb n 0 ≡ t → Lines n (cond t 1 ((n + 3) / 4))
-    go true e = let z = eqb-true n 0 e in record { one = omega arith; all = omega (arith, z); nine = λ h. omega arith }
-    go false e =
-        let z : 1 ≤ n = some n (eqb-false n 0 e) in
-        record { one = omega (arith, z); all = omega (arith, z); nine = λ h. omega (arith, h) }
-      where
-        some : (n : ℕ) → (n ≡ 0 → ⊥) → 1 ≤ n
-        some zero h = absurd (h refl)
-        some (suc n) h = omega arith
+lines-are n = record { one = some-line n; all = room n; nine = nine-lines n }
 
 -- What is left for a line, at most four.
 pub record Fewer (left c : ℕ) : Type 0 where
@@ -39,14 +29,9 @@ pub record Fewer (left c : ℕ) : Type 0 where
   pub rest : c < 4 → c ≡ left
 
 pub entries-are : (n k : ℕ) → Fewer (n - 4 * (k - 1)) (entriesAt n k)
-unfolding entriesAt
-entries-are n k = go (ltb 4 (n - 4 * (k - 1))) refl
-  where
-    go : (t : Bool) → ltb 4 (n - 4 * (k - 1)) ≡ t → Fewer (n - 4 * (k - 1)) (cond t 4 (n - 4 * (k - 1)))
-    go true e =
-        let h = ltb-true 4 (n - 4 * (k - 1)) e in
-        record { four = omega arith; most = omega (arith, h); rest = λ i. let z : ⊥ = omega (arith, i) in absurd z }
-    go false e = record { four = ltb-false 4 (n - 4 * (k - 1)) e; most = omega arith; rest = λ i. refl }
+entries-are n k =
+    let e = entries-at n k in
+    record { four = omega (arith, e); most = omega (arith, e); rest = λ i. omega (arith, e, i) }
 
 drop-take : {A : Type 0} (a n : ℕ) (l : List A) → drop a (take n l) ≡ take (n - a) (drop a l)
 drop-take zero n l = let e : n - 0 ≡ n = omega arith in rw e

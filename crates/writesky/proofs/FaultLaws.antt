@@ -1,6 +1,6 @@
 -- Faults as the loops meet them: one entry against the marks of those before it, then the entries one after another, each time what is left
 -- decides as the whole does; and the places that are not used.
-use Prim.Native.Nat.{ℕ, suc, _+_, _-_, _*_, _/_, _%_, _≤_, _<_}
+use Prim.Native.Nat.{ℕ, suc, _+_, _*_, _/_, _%_, _≤_, _<_}
 use mathlib.Core.Path.{_≡_, refl, sym, _∙_, ap, subst}
 use mathlib.Core.List.{List, [], _∷_, _++_}
 use mathlib.Core.Bool.{Bool, true, false, cond, _&&_}
@@ -9,8 +9,7 @@ use native.Mathlib.Numerals.{add-one}
 use lib.Dec.{eqb, leb}
 use lib.ListN.{length, getD, take, drop, length-set, drop-of-length-le, length-take}
 use lib.Seq.{drop-cons, take-suc, getD-take, length-take-le}
-use borrow.Author.Tests.{eq-eqb, ne-eqb, leb-true, le-ltb, lt-ltb}
-use Rattle.digits.proofs.Bools.{and-right}
+use borrow.Author.Tests.{eq-eqb, ne-eqb, le-ltb, lt-ltb}
 use Rattle.records.specs.declared.Entry.{Entry}
 use Rattle.records.specs.Wrong.{nearOf, firstWrong}
 use Rattle.ranges.specs.Ranges.{outside, rangeWrong}

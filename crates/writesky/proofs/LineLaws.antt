@@ -8,12 +8,11 @@ use native.Mathlib.Omega.{arith}
 use lib.Dec.{eqb, ltb, lit<}
 use lib.ListN.{length, getD, take, drop}
 use lib.Seq.{length-take-le, getD-take, getD-drop}
-use borrow.Author.Tests.{eqb-true, eqb-false, eq-eqb, ltb-true, ltb-false, le-ltb, le-leb}
+use borrow.Author.Tests.{eqb-true, eqb-false, eq-eqb, ltb-true, ltb-false, le-ltb}
 use Rattle.digits.proofs.Bools.{and-left, and-right, and-both}
 use Rattle.records.specs.declared.Entry.{Entry}
 use Rattle.records.specs.Blank.{blankEntry}
 use Rattle.records.specs.Wrong.{After, firstWrong}
-use Rattle.ranges.specs.Ranges.{outside}
 use Rattle.trips.proofs.Known.{all-zero, zero-all}
 use Rattle.trips.proofs.Ranged.{in-outside}
 use Rattle.sealing.specs.declared.Written.{Written}
