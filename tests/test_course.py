@@ -1,5 +1,5 @@
-"""docs/COURSE.md: what the page says that its lines come to is what the second program and the listing say. And every sample of the sources
-by the second program."""
+"""docs/COURSE.md: what the page says that its lines come to is what the second program says, and the library by way of the listing and the
+scribe. And every sample of the sources by the second program."""
 import re
 
 from programs import ROOT, run
@@ -32,6 +32,11 @@ def says(mode, row):
     return second(mode, row.encode() + b"\n").decode().rstrip("\n")
 
 
+def scribe(word, rows):
+    """What the scribe answers to rows behind a word."""
+    return run("scribe", "".join("%s %s\n" % (word, row) for row in rows).encode())[0].decode().splitlines()
+
+
 def as_answer(row):
     """A row of the listing as the page writes it."""
     _, address, word, *numbers = row.split()
@@ -47,25 +52,31 @@ def test_lines_read_by_themselves():
 
 
 def test_groups():
-    for _, rows in blocks("group"):
-        assert says("groups", as_bytes(rows[:-1]).hex()) == rows[-1], rows
+    groups = [as_bytes(rows[:-1]).hex() for _, rows in blocks("group")]
+    answers = [rows[-1] for _, rows in blocks("group")]
+    assert [says("groups", group) for group in groups] == answers
+    assert scribe("group", groups) == answers
 
 
 def test_counts():
-    for _, rows in blocks("counts"):
-        for settings, answer in pairs(rows):
-            assert says("counts", settings) == answer, settings
+    asked = [pair for _, rows in blocks("counts") for pair in pairs(rows)]
+    assert [says("counts", settings) for settings, _ in asked] == [answer for _, answer in asked]
+    assert scribe("counts", [settings for settings, _ in asked]) == [answer for _, answer in asked]
 
 
 def test_commands():
+    asked, came = [], []
     for (room,), rows in blocks("command"):
         settings = START
         for line, answer in pairs(rows):
-            got = says("commands", "0 %s %s %s" % (room, settings, as_bytes([line]).hex()))
+            asked.append("0 %s %s %s" % (room, settings, as_bytes([line]).hex()))
+            came.append(says("commands", asked[-1]))
+            got = came[-1]
             if got.startswith("ok "):
                 _, reply, settings = got.split(" ", 2)
                 got = bytes.fromhex(reply).decode().removesuffix("\r\n")
             assert got == answer, line
+    assert scribe("step", asked) == came
 
 
 def test_every_sample_by_the_second_program():
