@@ -6,9 +6,7 @@ ROOT = pathlib.Path(__file__).resolve().parent.parent
 
 
 def command(name, *words):
-    """How a program is run: the scribe is written in Rust over the proved library, the others in Rattle."""
-    tools = ROOT / "tools"
-    return [str(tools / "scribe"), *words] if name == "scribe" else [str(tools / "program"), name, *words]
+    return [str(ROOT / "tools" / "program"), name, *words]
 
 
 def run(name, data, *words, status=0):

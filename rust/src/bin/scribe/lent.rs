@@ -1,4 +1,4 @@
-//! Bytes that are lent to a writer, and the answer that says what it left in them.
+//! Bytes and numbers that are lent, and the answer that says what was left in them.
 
 use crate::words;
 use castanwel::Refusal;
@@ -33,6 +33,14 @@ impl Lent {
             Err(refusal) => refused(refusal),
         }
     }
+}
+
+/// What stands in lent numbers before a line or a group is read to them.
+pub const STALE: u32 = 0xAAAA_AAAA;
+
+/// Whether lent numbers are as they were.
+pub fn is_stale(numbers: &[u32]) -> bool {
+    numbers.iter().all(|&number| number == STALE)
 }
 
 /// The answer where something was changed that had to stay.

@@ -1,26 +1,21 @@
 //! Rows of single lines: a record written, a line read, a field found.
 
-use crate::lent::{refused, touched, Lent};
-use crate::words::{self, Number};
+use crate::lent::{is_stale, refused, touched, Lent, STALE};
+use crate::words::{self, Number, MOST};
 use castanwel::numbers::{self, RECORD};
 use castanwel::{Kind, Refusal, Talker};
 
 /// How many bytes there are to write a line to.
 const ROOM: usize = 200;
 
-/// The most bytes that a row has read.
-const MOST: usize = 32768;
-
-/// Kind and talker of an address of five letters.
+/// Kind and talker of an address of five letters; a kind of five letters has no talker.
 fn address_of(letters: &[u8]) -> Option<(Kind, Option<Talker>)> {
-    let named = |words: &str| words.as_bytes() == letters;
-    if let Some(&kind) = Kind::ALL.iter().find(|kind| named(kind.word())) {
-        return Some((kind, None)).filter(|(kind, _)| !kind.has_talker());
+    let kind_of = |word: &[u8]| Kind::ALL.iter().copied().find(|kind| kind.word().as_bytes() == word);
+    if let Some(kind) = kind_of(letters) {
+        return Some((kind, None));
     }
-    let (talker, kind) = (letters.get(..2)?, letters.get(2..)?);
-    let talker = Talker::ALL.iter().find(|one| one.word().as_bytes() == talker)?;
-    let kind = Kind::ALL.iter().find(|one| one.has_talker() && one.word().as_bytes() == kind)?;
-    Some((*kind, Some(*talker)))
+    let talker = words::talker(&letters[..2])?;
+    Some((kind_of(&letters[2..])?, Some(talker)))
 }
 
 /// The record of a row, `ADDRESS ROOM NUMBERS`, written.
@@ -34,9 +29,6 @@ pub fn record(row: &[u8]) -> Option<String> {
     let written = numbers::write(kind.number(), &numbers, lent.room());
     Some(lent.answer(written))
 }
-
-/// What stands in the slice of numbers before a line is read.
-const STALE: u32 = 0xAAAA_AAAA;
 
 /// The address of a kind and the numbers of its record.
 fn read_as(kind: u32, numbers: &[u32]) -> Option<String> {
@@ -53,7 +45,7 @@ pub fn line(rest: &[u8]) -> Option<String> {
     let mut numbers = [STALE; RECORD];
     let read = numbers::read(&line, &mut numbers);
     let count = read.ok().and_then(Kind::from_number).map_or(0, |kind| kind.cells().len());
-    if numbers[count..].iter().any(|&number| number != STALE) {
+    if !is_stale(&numbers[count..]) {
         return Some(touched());
     }
     match read {

@@ -1,18 +1,12 @@
 //! Rows of groups: their bytes read, a table written.
 
-use crate::lent::{refused, touched, Lent};
-use crate::words;
+use crate::lent::{is_stale, refused, touched, Lent, STALE};
+use crate::words::{self, MOST};
 use castanwel::numbers::{self, GROUP};
 use castanwel::{Table, Talker};
 
 /// How many bytes there are to write a group to.
 const ROOM: usize = 800;
-
-/// The most bytes that a row has read.
-const MOST: usize = 32768;
-
-/// What stands in the slice of numbers before a group is read.
-const STALE: u32 = 0xAAAA_AAAA;
 
 /// How many numbers a satellite has.
 const ENTRY: usize = 7;
@@ -34,19 +28,18 @@ pub fn group(rest: &[u8]) -> Option<String> {
     let read = numbers::read_group(&bytes, &mut numbers);
     Some(match read {
         Ok(()) => read_as(&numbers).unwrap_or_else(|| "not blank".to_owned()),
-        Err(_) if numbers.iter().any(|&number| number != STALE) => touched(),
+        Err(_) if !is_stale(&numbers) => touched(),
         Err(refusal) => refused(refusal),
     })
 }
 
 /// The table of a row, `TALKER ROOM COUNT NUMBERS`, written.
 pub fn table(rest: &[u8]) -> Option<String> {
-    let talker = rest.get(..2)?;
-    let talker = Talker::ALL.iter().find(|one| one.word().as_bytes() == talker)?;
+    let talker = words::talker(rest.get(..2)?)?;
     let given = words::numbers(rest[2..].strip_prefix(b" ")?)?;
     let (room, given) = given.split_first()?;
     let mut lent = Lent::new(ROOM, room.room(ROOM)?);
-    let mut numbers = vec![*talker as u32];
+    let mut numbers = vec![talker as u32];
     numbers.extend(words::in_cells(given, &Table::cells())?);
     let written = numbers::write_group(&numbers, lent.room());
     Some(lent.answer(written))

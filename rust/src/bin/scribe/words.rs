@@ -1,6 +1,10 @@
-//! The words of a row: numbers, and bytes in hex digits.
+//! The words of a row: numbers, talkers, and bytes in hex digits.
 
 use castanwel::numbers::Cell;
+use castanwel::Talker;
+
+/// The most bytes of a line or a group that a row has read.
+pub const MOST: usize = 32768;
 
 /// A whole number of a row: a minus or none, and its size, 4294967295 where it is more.
 #[derive(Clone, Copy, Debug, PartialEq, Eq)]
@@ -76,6 +80,11 @@ pub fn text_of(numbers: &[u32], cells: &[Cell]) -> String {
         Cell::Mark | Cell::Plain => format!(" {}", number),
     };
     numbers.iter().zip(cells).map(text).collect()
+}
+
+/// The talker of two letters.
+pub fn talker(letters: &[u8]) -> Option<Talker> {
+    Talker::ALL.iter().copied().find(|talker| talker.word().as_bytes() == letters)
 }
 
 /// The bytes of hex digits, at most so many.
