@@ -184,3 +184,10 @@ kindOf (S.Ta r) = 13
 kindOf (S.Sa r) = 14
 kindOf (S.Ea r) = 15
 kindOf (S.Refused n f) = 0
+
+-- How many numbers each kind has, by its number; none for what is no kind.
+abbrev pub counts : List ℕ
+counts = 0 ∷ 19 ∷ 8 ∷ 33 ∷ 33 ∷ 18 ∷ 10 ∷ 9 ∷ 8 ∷ 4 ∷ 4 ∷ 0 ∷ 4 ∷ 2 ∷ 2 ∷ 1 ∷ []
+
+abbrev pub countOf : ℕ → ℕ
+countOf kind = getD counts kind 0
