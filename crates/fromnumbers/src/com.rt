@@ -7,8 +7,12 @@ use records::MasksAsked;
 use records::MasksTold;
 use records::PortAsked;
 use records::PortTold;
+ghost use mathlib.Core.Path.{_≡_};
+ghost use Rattle.fromnumbers.specs.Back.{pirprAt, pirtrAt, pirsrAt, pirpaAt, pirtaAt, pirsaAt, pireaAt};
 
-pub fn pirpr(n: &[u32]) -> PortAsked {
+pub fn pirpr(n: &[u32]) -> PortAsked
+    ensures { λ r. ⌜ r ≡ pirprAt (now (n .entry)) ⌝ }
+{
     PortAsked {
         port: values::maybe(n, 0),
         rate: values::maybe(n, 2),
@@ -17,21 +21,27 @@ pub fn pirpr(n: &[u32]) -> PortAsked {
     }
 }
 
-pub fn pirtr(n: &[u32]) -> DatumAsked {
+pub fn pirtr(n: &[u32]) -> DatumAsked
+    ensures { λ r. ⌜ r ≡ pirtrAt (now (n .entry)) ⌝ }
+{
     DatumAsked {
         datum: values::maybe(n, 0),
         zone: values::zone(n, 2),
     }
 }
 
-pub fn pirsr(n: &[u32]) -> MasksAsked {
+pub fn pirsr(n: &[u32]) -> MasksAsked
+    ensures { λ r. ⌜ r ≡ pirsrAt (now (n .entry)) ⌝ }
+{
     MasksAsked {
         gps: values::maybe(n, 0),
         glonass: values::maybe(n, 2),
     }
 }
 
-pub fn pirpa(n: &[u32]) -> PortTold {
+pub fn pirpa(n: &[u32]) -> PortTold
+    ensures { λ r. ⌜ r ≡ pirpaAt (now (n .entry)) ⌝ }
+{
     PortTold {
         port: slots::at(n, 0),
         rate: slots::at(n, 1),
@@ -40,21 +50,27 @@ pub fn pirpa(n: &[u32]) -> PortTold {
     }
 }
 
-pub fn pirta(n: &[u32]) -> DatumTold {
+pub fn pirta(n: &[u32]) -> DatumTold
+    ensures { λ r. ⌜ r ≡ pirtaAt (now (n .entry)) ⌝ }
+{
     DatumTold {
         datum: slots::at(n, 0),
         zone: slots::signed(slots::at(n, 1)),
     }
 }
 
-pub fn pirsa(n: &[u32]) -> MasksTold {
+pub fn pirsa(n: &[u32]) -> MasksTold
+    ensures { λ r. ⌜ r ≡ pirsaAt (now (n .entry)) ⌝ }
+{
     MasksTold {
         gps: slots::at(n, 0),
         glonass: slots::at(n, 1),
     }
 }
 
-pub fn pirea(n: &[u32]) -> CodeTold {
+pub fn pirea(n: &[u32]) -> CodeTold
+    ensures { λ r. ⌜ r ≡ pireaAt (now (n .entry)) ⌝ }
+{
     CodeTold {
         code: slots::at(n, 0),
     }

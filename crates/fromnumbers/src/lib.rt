@@ -11,11 +11,16 @@ use address::Talker;
 use records::Reading;
 use records::Sentence;
 use records::blank;
+ghost use mathlib.Core.Path.{_≡_};
+ghost use Rattle.tonumbers.specs.Layout.{countOf};
+ghost use Rattle.fromnumbers.specs.Back.{knownOf, addressAt, standardAt, makerAt, recordAt};
 
 const COUNTS: [usize; 16] = [0, 19, 8, 33, 33, 18, 10, 9, 8, 4, 4, 0, 4, 2, 2, 1];
 
 // How many numbers a kind has; 0 for what is no kind.
-fn count_of(kind: u32) -> usize {
+fn count_of(kind: u32) -> usize
+    ensures { λ r. ⌜ r ≡ countOf kind ⌝ }
+{
     if kind < 16 {
         return COUNTS[kind as usize];
     }
@@ -23,7 +28,9 @@ fn count_of(kind: u32) -> usize {
 }
 
 // The type of sentence that a kind's number stands for, of the talker `t` where it has one.
-fn known(kind: u32, t: Talker) -> Address {
+fn known(kind: u32, t: Talker) -> Address
+    ensures { λ r. ⌜ r ≡ knownOf kind t ⌝ }
+{
     match kind {
         1 => Address::Standard(t, Kind::Gga),
         2 => Address::Standard(t, Kind::Gll),
@@ -45,14 +52,18 @@ fn known(kind: u32, t: Talker) -> Address {
 }
 
 // The same for a talker's number; unknown where a talker's sentence has none with that number.
-fn address_at(kind: u32, talker: u32) -> Address {
+fn address_at(kind: u32, talker: u32) -> Address
+    ensures { λ r. ⌜ r ≡ addressAt kind talker ⌝ }
+{
     if (kind < 8) & (4 < talker) {
         return Address::Unknown;
     }
     known(kind, slots::talker_of(talker))
 }
 
-fn standard(t: Talker, k: Kind, n: &[u32]) -> Reading {
+fn standard(t: Talker, k: Kind, n: &[u32]) -> Reading
+    ensures { λ r. ⌜ r ≡ standardAt t k (now (n .entry)) ⌝ }
+{
     match k {
         Kind::Gga => blank::alone(Sentence::Gga(t, nav::gga(n))),
         Kind::Gll => blank::alone(Sentence::Gll(t, nav::gll(n))),
@@ -72,7 +83,9 @@ fn standard(t: Talker, k: Kind, n: &[u32]) -> Reading {
     }
 }
 
-fn maker(k: Pir, n: &[u32]) -> Reading {
+fn maker(k: Pir, n: &[u32]) -> Reading
+    ensures { λ r. ⌜ r ≡ makerAt k (now (n .entry)) ⌝ }
+{
     match k {
         Pir::Pr => blank::alone(Sentence::Pr(com::pirpr(n))),
         Pir::Tr => blank::alone(Sentence::Tr(com::pirtr(n))),
@@ -87,7 +100,9 @@ fn maker(k: Pir, n: &[u32]) -> Reading {
 
 // The record of a kind that the numbers say. Refused: 5 where there are fewer numbers than the kind has,
 // 3 for what is no kind, or no talker of a kind that has one. Numbers past the kind's are not looked at.
-pub fn record_at(kind: u32, n: &[u32]) -> Reading {
+pub fn record_at(kind: u32, n: &[u32]) -> Reading
+    ensures { λ r. ⌜ r ≡ recordAt kind (now (n .entry)) ⌝ }
+{
     if n.len() < count_of(kind) {
         return blank::alone(Sentence::Refused(5, 0));
     }

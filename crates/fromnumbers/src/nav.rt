@@ -5,8 +5,12 @@ use records::Gll;
 use records::Rmc;
 use records::Vtg;
 use records::Zda;
+ghost use mathlib.Core.Path.{_≡_};
+ghost use Rattle.fromnumbers.specs.Back.{ggaAt, gllAt, rmcAt, vtgAt, zdaAt};
 
-pub fn gga(n: &[u32]) -> Gga {
+pub fn gga(n: &[u32]) -> Gga
+    ensures { λ r. ⌜ r ≡ ggaAt (now (n .entry)) ⌝ }
+{
     Gga {
         time: values::maybe(n, 1),
         place: values::place(n, 3),
@@ -20,7 +24,9 @@ pub fn gga(n: &[u32]) -> Gga {
     }
 }
 
-pub fn gll(n: &[u32]) -> Gll {
+pub fn gll(n: &[u32]) -> Gll
+    ensures { λ r. ⌜ r ≡ gllAt (now (n .entry)) ⌝ }
+{
     Gll {
         place: values::place(n, 1),
         time: values::maybe(n, 4),
@@ -29,7 +35,9 @@ pub fn gll(n: &[u32]) -> Gll {
     }
 }
 
-pub fn rmc(n: &[u32]) -> Rmc {
+pub fn rmc(n: &[u32]) -> Rmc
+    ensures { λ r. ⌜ r ≡ rmcAt (now (n .entry)) ⌝ }
+{
     Rmc {
         time: values::maybe(n, 1),
         status: slots::at(n, 3),
@@ -42,7 +50,9 @@ pub fn rmc(n: &[u32]) -> Rmc {
     }
 }
 
-pub fn vtg(n: &[u32]) -> Vtg {
+pub fn vtg(n: &[u32]) -> Vtg
+    ensures { λ r. ⌜ r ≡ vtgAt (now (n .entry)) ⌝ }
+{
     Vtg {
         course: values::number(n, 1),
         magnetic: values::number(n, 3),
@@ -52,7 +62,9 @@ pub fn vtg(n: &[u32]) -> Vtg {
     }
 }
 
-pub fn zda(n: &[u32]) -> Zda {
+pub fn zda(n: &[u32]) -> Zda
+    ensures { λ r. ⌜ r ≡ zdaAt (now (n .entry)) ⌝ }
+{
     Zda {
         time: values::maybe(n, 1),
         date: values::date(n, 3),

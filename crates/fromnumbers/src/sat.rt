@@ -4,9 +4,13 @@ use records::Entry;
 use records::Gsa;
 use records::Gsv;
 use records::values::Maybe;
+ghost use mathlib.Core.Path.{_≡_};
+ghost use Rattle.fromnumbers.specs.Back.{twelveAt, fourAt, gsaAt, gsvAt};
 
 // The twelve satellites of a GSA.
-fn twelve(n: &[u32]) -> [Maybe; 12] {
+fn twelve(n: &[u32]) -> [Maybe; 12]
+    ensures { λ r. ⌜ r ≡ twelveAt (now (n .entry)) ⌝ }
+{
     [
         values::maybe(n, 3),
         values::maybe(n, 5),
@@ -24,7 +28,9 @@ fn twelve(n: &[u32]) -> [Maybe; 12] {
 }
 
 // The four places of a GSV.
-fn four(n: &[u32]) -> [Entry; 4] {
+fn four(n: &[u32]) -> [Entry; 4]
+    ensures { λ r. ⌜ r ≡ fourAt (now (n .entry)) ⌝ }
+{
     [
         values::entry(n, 5, 6, 8, 10),
         values::entry(n, 12, 13, 15, 17),
@@ -33,7 +39,9 @@ fn four(n: &[u32]) -> [Entry; 4] {
     ]
 }
 
-pub fn gsa(n: &[u32]) -> Gsa {
+pub fn gsa(n: &[u32]) -> Gsa
+    ensures { λ r. ⌜ r ≡ gsaAt (now (n .entry)) ⌝ }
+{
     Gsa {
         selection: slots::at(n, 1),
         fix: slots::at(n, 2),
@@ -44,7 +52,9 @@ pub fn gsa(n: &[u32]) -> Gsa {
     }
 }
 
-pub fn gsv(n: &[u32]) -> Gsv {
+pub fn gsv(n: &[u32]) -> Gsv
+    ensures { λ r. ⌜ r ≡ gsvAt (now (n .entry)) ⌝ }
+{
     Gsv {
         lines: slots::at(n, 1),
         line: slots::at(n, 2),

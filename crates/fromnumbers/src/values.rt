@@ -8,55 +8,73 @@ use records::values::Number;
 use records::values::Place;
 use records::values::Signed;
 use records::values::Zone;
+ghost use mathlib.Core.Path.{_≡_};
+ghost use Rattle.fromnumbers.specs.Values.{thereAt, maybeAt, numberAt, knotsAt, kmhAt, signedAt, zoneAt, placeAt, dateAt, entryAt};
 
 // Whether the mark at a place says that a value is there.
-fn there(n: &[u32], i: u8) -> bool {
+fn there(n: &[u32], i: u8) -> bool
+    ensures { λ r. ⌜ r ≡ thereAt (now (n .entry)) i ⌝ }
+{
     slots::marked(slots::at(n, i as usize))
 }
 
-pub fn maybe(n: &[u32], i: u8) -> Maybe {
+pub fn maybe(n: &[u32], i: u8) -> Maybe
+    ensures { λ r. ⌜ r ≡ maybeAt (now (n .entry)) i ⌝ }
+{
     Maybe {
         there: there(n, i),
         value: slots::at(n, i as usize + 1),
     }
 }
 
-pub fn number(n: &[u32], i: u8) -> Number {
+pub fn number(n: &[u32], i: u8) -> Number
+    ensures { λ r. ⌜ r ≡ numberAt (now (n .entry)) i ⌝ }
+{
     Number {
         there: there(n, i),
         value: slots::at(n, i as usize + 1),
     }
 }
 
-pub fn knots(n: &[u32], i: u8) -> Knots {
+pub fn knots(n: &[u32], i: u8) -> Knots
+    ensures { λ r. ⌜ r ≡ knotsAt (now (n .entry)) i ⌝ }
+{
     Knots {
         there: there(n, i),
         value: slots::at(n, i as usize + 1),
     }
 }
 
-pub fn kmh(n: &[u32], i: u8) -> Kmh {
+pub fn kmh(n: &[u32], i: u8) -> Kmh
+    ensures { λ r. ⌜ r ≡ kmhAt (now (n .entry)) i ⌝ }
+{
     Kmh {
         there: there(n, i),
         value: slots::at(n, i as usize + 1),
     }
 }
 
-pub fn signed(n: &[u32], i: u8) -> Signed {
+pub fn signed(n: &[u32], i: u8) -> Signed
+    ensures { λ r. ⌜ r ≡ signedAt (now (n .entry)) i ⌝ }
+{
     Signed {
         there: there(n, i),
         value: slots::signed(slots::at(n, i as usize + 1)),
     }
 }
 
-pub fn zone(n: &[u32], i: u8) -> Zone {
+pub fn zone(n: &[u32], i: u8) -> Zone
+    ensures { λ r. ⌜ r ≡ zoneAt (now (n .entry)) i ⌝ }
+{
     Zone {
         there: there(n, i),
         minutes: slots::signed(slots::at(n, i as usize + 1)),
     }
 }
 
-pub fn place(n: &[u32], i: u8) -> Place {
+pub fn place(n: &[u32], i: u8) -> Place
+    ensures { λ r. ⌜ r ≡ placeAt (now (n .entry)) i ⌝ }
+{
     Place {
         there: there(n, i),
         lat: slots::signed(slots::at(n, i as usize + 1)),
@@ -64,7 +82,9 @@ pub fn place(n: &[u32], i: u8) -> Place {
     }
 }
 
-pub fn date(n: &[u32], i: u8) -> Date {
+pub fn date(n: &[u32], i: u8) -> Date
+    ensures { λ r. ⌜ r ≡ dateAt (now (n .entry)) i ⌝ }
+{
     Date {
         there: there(n, i),
         day: slots::at(n, i as usize + 1),
@@ -74,7 +94,9 @@ pub fn date(n: &[u32], i: u8) -> Date {
 }
 
 // The satellite whose four values begin at these places.
-pub fn entry(n: &[u32], number: u8, elevation: u8, azimuth: u8, signal: u8) -> Entry {
+pub fn entry(n: &[u32], number: u8, elevation: u8, azimuth: u8, signal: u8) -> Entry
+    ensures { λ r. ⌜ r ≡ entryAt (now (n .entry)) number elevation azimuth signal ⌝ }
+{
     Entry {
         number: slots::at(n, number as usize),
         elevation: maybe(n, elevation),

@@ -1,4 +1,8 @@
 // Records read and written by a host, as numbers.
+ghost use mathlib.Core.Path.{_≡_};
+ghost use Rattle.reading.specs.Lines.{readLine};
+ghost use Rattle.hostrecords.specs.ToHost.{toldFor, laidFor};
+ghost use Rattle.hostrecords.specs.FromHost.{writtenAs, leftAs};
 
 // Reads `line` to its record, stores the record's numbers at the start of `numbers`, sets `kind` to its kind
 // and answers 0. Else `kind` is 0, `numbers` is left, and the answer is the refusal of the line with its
@@ -9,7 +13,12 @@ pub extern "C" fn castanwel_read(
     numbers: &mut [u32],
     kind: &mut u32,
     field: &mut usize,
-) -> u8 {
+) -> u8
+    ensures { λ r. ⌜ r ≡ toldFor (readLine (now (line .entry))) (now (numbers .entry)) .no ⌝ }
+    ensures { λ _. ⌜ now (kind .exit) ≡ toldFor (readLine (now (line .entry))) (now (numbers .entry)) .kind ⌝ }
+    ensures { λ _. ⌜ now (field .exit) ≡ toldFor (readLine (now (line .entry))) (now (numbers .entry)) .field ⌝ }
+    ensures { λ _. ⌜ now (numbers .exit) ≡ laidFor (readLine (now (line .entry))) (now (numbers .entry)) ⌝ }
+{
     let told = hostrecords::read(line, numbers);
     *kind = told.kind;
     *field = told.field;
@@ -27,7 +36,13 @@ pub extern "C" fn castanwel_write(
     length: &mut usize,
     line: &mut usize,
     field: &mut usize,
-) -> u8 {
+) -> u8
+    ensures { λ r. ⌜ r ≡ writtenAs kind (now (numbers .entry)) (now (out .entry)) .no ⌝ }
+    ensures { λ _. ⌜ now (length .exit) ≡ writtenAs kind (now (numbers .entry)) (now (out .entry)) .length ⌝ }
+    ensures { λ _. ⌜ now (line .exit) ≡ writtenAs kind (now (numbers .entry)) (now (out .entry)) .line ⌝ }
+    ensures { λ _. ⌜ now (field .exit) ≡ writtenAs kind (now (numbers .entry)) (now (out .entry)) .field ⌝ }
+    ensures { λ _. ⌜ now (out .exit) ≡ leftAs kind (now (numbers .entry)) (now (out .entry)) ⌝ }
+{
     let written = hostrecords::write(kind, numbers, out);
     *length = written.length;
     *line = written.line;

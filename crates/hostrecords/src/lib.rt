@@ -4,16 +4,22 @@ pub mod writing;
 
 use reading::Refusal;
 use sealing::Written;
+ghost use mathlib.Core.Path.{_≡_};
+ghost use Rattle.reading.specs.Lines.{readLine};
+ghost use Rattle.hostrecords.specs.ToHost.{toldOf, toldFor, laidFor};
+ghost use Rattle.hostrecords.specs.FromHost.{writtenAs, leftAs};
 
-// What is told of a line beside its numbers: 0 and its kind, or a refusal with its field.
+// What a host is told of a line beside its numbers: 0 and its kind, or a refusal with its field.
 pub struct Told {
     pub no: u8,
     pub kind: u32,
     pub field: usize,
 }
 
-// 0 with the kind where the record is laid; else the refusal, or 8 where there was no room for its numbers.
-fn told_of(refusal: Refusal, laid: bool, kind: u32) -> Told {
+// 0 with the kind where there was room for its numbers, 8 where there was none; before both, a refusal.
+fn told_of(refusal: Refusal, room: bool, kind: u32) -> Told
+    ensures { λ r. ⌜ r ≡ toldOf refusal room kind ⌝ }
+{
     if refusal.no != 0 {
         return Told {
             no: refusal.no,
@@ -21,7 +27,7 @@ fn told_of(refusal: Refusal, laid: bool, kind: u32) -> Told {
             field: refusal.field,
         };
     }
-    if !laid {
+    if !room {
         return Told {
             no: 8,
             kind: 0,
@@ -37,16 +43,24 @@ fn told_of(refusal: Refusal, laid: bool, kind: u32) -> Told {
 
 // Reads `line` and stores the numbers of its record at the start of `numbers`. Refused: as the line is, or 8
 // where `numbers` is too short; then `numbers` is left.
-pub fn read(line: &[u8], numbers: &mut [u32]) -> Told {
+pub fn read(line: &[u8], numbers: &mut [u32]) -> Told
+    ensures { λ r. ⌜ r ≡ toldFor (readLine (now (line .entry))) (now (numbers .entry)) ⌝ }
+    ensures { λ _. ⌜ now (numbers .exit) ≡ laidFor (readLine (now (line .entry))) (now (numbers .entry)) ⌝ }
+{
     let reading = reading::read_line(line);
     let sentence = reading.sentence;
-    let laid = tonumbers::lay(numbers, reading);
+    let room = tonumbers::lay(numbers, reading);
     let refusal = reading::refusal_of(sentence);
-    told_of(refusal, laid, tonumbers::kind_of(sentence))
+    let kind = tonumbers::kind_of(sentence);
+    told_of(refusal, room, kind)
 }
 
 // Writes the line of the record of a kind that `numbers` say into `out`. Refused, and then `out` is left: 3
 // for what is no kind or no talker and 5 for too few numbers, both on line 0; or as the kind's writer does.
-pub fn write(kind: u32, numbers: &[u32], out: &mut [u8]) -> Written {
-    writing::write(out, fromnumbers::record_at(kind, numbers))
+pub fn write(kind: u32, numbers: &[u32], out: &mut [u8]) -> Written
+    ensures { λ w. ⌜ w ≡ writtenAs kind (now (numbers .entry)) (now (out .entry)) ⌝ }
+    ensures { λ _. ⌜ now (out .exit) ≡ leftAs kind (now (numbers .entry)) (now (out .entry)) ⌝ }
+{
+    let reading = fromnumbers::record_at(kind, numbers);
+    writing::write(out, reading)
 }

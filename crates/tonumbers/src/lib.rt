@@ -5,9 +5,16 @@ pub mod sat;
 
 use records::Reading;
 use records::Sentence;
+ghost use mathlib.Core.Path.{_≡_};
+ghost use lib.Dec.{leb};
+ghost use lib.ListN.{length};
+ghost use Rattle.slots.specs.Slots.{laid};
+ghost use Rattle.tonumbers.specs.Layout.{numbersOf, kindOf};
 
 // The number of a sentence's kind, from 1; 0 for a refused one.
-pub fn kind_of(sentence: Sentence) -> u32 {
+pub fn kind_of(sentence: Sentence) -> u32
+    ensures { λ r. ⌜ r ≡ kindOf sentence ⌝ }
+{
     match sentence {
         Sentence::Gga(_, _) => 1,
         Sentence::Gll(_, _) => 2,
@@ -30,7 +37,10 @@ pub fn kind_of(sentence: Sentence) -> u32 {
 
 // Stores the numbers of a record at the start of `out` and answers whether there was room; where there was
 // none, `out` is left. A refused sentence has no numbers.
-pub fn lay(out: &mut [u32], reading: Reading) -> bool {
+pub fn lay(out: &mut [u32], reading: Reading) -> bool
+    ensures { λ r. ⌜ r ≡ leb (length (numbersOf reading)) (length (now (out .entry))) ⌝ }
+    ensures { λ _. ⌜ now (out .exit) ≡ laid (numbersOf reading) (now (out .entry)) ⌝ }
+{
     let sentence = reading.sentence;
     let gsa = reading.gsa;
     let gsv = reading.gsv;

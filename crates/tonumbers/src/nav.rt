@@ -5,8 +5,16 @@ use records::Gll;
 use records::Rmc;
 use records::Vtg;
 use records::Zda;
+ghost use mathlib.Core.Path.{_≡_};
+ghost use lib.Dec.{leb};
+ghost use lib.ListN.{length};
+ghost use Rattle.slots.specs.Slots.{laid};
+ghost use Rattle.tonumbers.specs.Layout.{ggaNumbers, gllNumbers, rmcNumbers, vtgNumbers, zdaNumbers};
 
-pub fn gga(out: &mut [u32], t: Talker, r: Gga) -> bool {
+pub fn gga(out: &mut [u32], t: Talker, r: Gga) -> bool
+    ensures { λ b. ⌜ b ≡ leb (length (ggaNumbers t r)) (length (now (out .entry))) ⌝ }
+    ensures { λ _. ⌜ now (out .exit) ≡ laid (ggaNumbers t r) (now (out .entry)) ⌝ }
+{
     let talker = slots::talker_number(t);
     let time_there = slots::mark(r.time.there);
     let place_there = slots::mark(r.place.there);
@@ -44,7 +52,10 @@ pub fn gga(out: &mut [u32], t: Talker, r: Gga) -> bool {
     slots::lay(out, &v)
 }
 
-pub fn gll(out: &mut [u32], t: Talker, r: Gll) -> bool {
+pub fn gll(out: &mut [u32], t: Talker, r: Gll) -> bool
+    ensures { λ b. ⌜ b ≡ leb (length (gllNumbers t r)) (length (now (out .entry))) ⌝ }
+    ensures { λ _. ⌜ now (out .exit) ≡ laid (gllNumbers t r) (now (out .entry)) ⌝ }
+{
     let talker = slots::talker_number(t);
     let place_there = slots::mark(r.place.there);
     let lat = slots::bits(r.place.lat);
@@ -63,7 +74,10 @@ pub fn gll(out: &mut [u32], t: Talker, r: Gll) -> bool {
     slots::lay(out, &v)
 }
 
-pub fn rmc(out: &mut [u32], t: Talker, r: Rmc) -> bool {
+pub fn rmc(out: &mut [u32], t: Talker, r: Rmc) -> bool
+    ensures { λ b. ⌜ b ≡ leb (length (rmcNumbers t r)) (length (now (out .entry))) ⌝ }
+    ensures { λ _. ⌜ now (out .exit) ≡ laid (rmcNumbers t r) (now (out .entry)) ⌝ }
+{
     let talker = slots::talker_number(t);
     let time_there = slots::mark(r.time.there);
     let place_there = slots::mark(r.place.there);
@@ -97,7 +111,10 @@ pub fn rmc(out: &mut [u32], t: Talker, r: Rmc) -> bool {
     slots::lay(out, &v)
 }
 
-pub fn vtg(out: &mut [u32], t: Talker, r: Vtg) -> bool {
+pub fn vtg(out: &mut [u32], t: Talker, r: Vtg) -> bool
+    ensures { λ b. ⌜ b ≡ leb (length (vtgNumbers t r)) (length (now (out .entry))) ⌝ }
+    ensures { λ _. ⌜ now (out .exit) ≡ laid (vtgNumbers t r) (now (out .entry)) ⌝ }
+{
     let talker = slots::talker_number(t);
     let course_there = slots::mark(r.course.there);
     let magnetic_there = slots::mark(r.magnetic.there);
@@ -118,7 +135,10 @@ pub fn vtg(out: &mut [u32], t: Talker, r: Vtg) -> bool {
     slots::lay(out, &v)
 }
 
-pub fn zda(out: &mut [u32], t: Talker, r: Zda) -> bool {
+pub fn zda(out: &mut [u32], t: Talker, r: Zda) -> bool
+    ensures { λ b. ⌜ b ≡ leb (length (zdaNumbers t r)) (length (now (out .entry))) ⌝ }
+    ensures { λ _. ⌜ now (out .exit) ≡ laid (zdaNumbers t r) (now (out .entry)) ⌝ }
+{
     let talker = slots::talker_number(t);
     let time_there = slots::mark(r.time.there);
     let date_there = slots::mark(r.date.there);

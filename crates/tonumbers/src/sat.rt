@@ -3,9 +3,17 @@ use address::Talker;
 use records::Entry;
 use records::Gsa;
 use records::Gsv;
+ghost use mathlib.Core.Path.{_≡_};
+ghost use mathlib.Core.List.{[]};
+ghost use lib.Dec.{leb};
+ghost use lib.ListN.{length};
+ghost use Rattle.slots.specs.Slots.{laid};
+ghost use Rattle.tonumbers.specs.Layout.{sixFrom, lastSix, gsaNumbers, entry, gsvNumbers};
 
 // The numbers of the first six satellites of a GSA.
-fn first_six(r: Gsa) -> [u32; 12] {
+fn first_six(r: Gsa) -> [u32; 12]
+    ensures { λ v. ⌜ v ≡ sixFrom r 0 1 2 3 4 5 [] ⌝ }
+{
     let m0 = slots::mark(r.satellites[0].there);
     let m1 = slots::mark(r.satellites[1].there);
     let m2 = slots::mark(r.satellites[2].there);
@@ -29,7 +37,9 @@ fn first_six(r: Gsa) -> [u32; 12] {
 }
 
 // The numbers of the last six satellites, and of PDOP, HDOP and VDOP.
-fn rest(r: Gsa) -> [u32; 18] {
+fn rest(r: Gsa) -> [u32; 18]
+    ensures { λ v. ⌜ v ≡ lastSix r ⌝ }
+{
     let m6 = slots::mark(r.satellites[6].there);
     let m7 = slots::mark(r.satellites[7].there);
     let m8 = slots::mark(r.satellites[8].there);
@@ -61,7 +71,9 @@ fn rest(r: Gsa) -> [u32; 18] {
     ]
 }
 
-fn gsa_row(t: Talker, r: Gsa) -> [u32; 33] {
+fn gsa_row(t: Talker, r: Gsa) -> [u32; 33]
+    ensures { λ v. ⌜ v ≡ gsaNumbers t r ⌝ }
+{
     let talker = slots::talker_number(t);
     let a = first_six(r);
     let b = rest(r);
@@ -102,13 +114,18 @@ fn gsa_row(t: Talker, r: Gsa) -> [u32; 33] {
     ]
 }
 
-pub fn gsa(out: &mut [u32], t: Talker, r: Gsa) -> bool {
+pub fn gsa(out: &mut [u32], t: Talker, r: Gsa) -> bool
+    ensures { λ b. ⌜ b ≡ leb (length (gsaNumbers t r)) (length (now (out .entry))) ⌝ }
+    ensures { λ _. ⌜ now (out .exit) ≡ laid (gsaNumbers t r) (now (out .entry)) ⌝ }
+{
     let v = gsa_row(t, r);
     slots::lay(out, &v)
 }
 
 // The numbers of two satellites of a GSV.
-fn two(a: Entry, b: Entry) -> [u32; 14] {
+fn two(a: Entry, b: Entry) -> [u32; 14]
+    ensures { λ v. ⌜ v ≡ entry a (entry b []) ⌝ }
+{
     let a_up = slots::mark(a.elevation.there);
     let a_round = slots::mark(a.azimuth.there);
     let a_heard = slots::mark(a.signal.there);
@@ -133,7 +150,9 @@ fn two(a: Entry, b: Entry) -> [u32; 14] {
     ]
 }
 
-fn gsv_row(t: Talker, r: Gsv) -> [u32; 33] {
+fn gsv_row(t: Talker, r: Gsv) -> [u32; 33]
+    ensures { λ v. ⌜ v ≡ gsvNumbers t r ⌝ }
+{
     let talker = slots::talker_number(t);
     let a = two(r.entries[0], r.entries[1]);
     let b = two(r.entries[2], r.entries[3]);
@@ -174,7 +193,10 @@ fn gsv_row(t: Talker, r: Gsv) -> [u32; 33] {
     ]
 }
 
-pub fn gsv(out: &mut [u32], t: Talker, r: Gsv) -> bool {
+pub fn gsv(out: &mut [u32], t: Talker, r: Gsv) -> bool
+    ensures { λ b. ⌜ b ≡ leb (length (gsvNumbers t r)) (length (now (out .entry))) ⌝ }
+    ensures { λ _. ⌜ now (out .exit) ≡ laid (gsvNumbers t r) (now (out .entry)) ⌝ }
+{
     let v = gsv_row(t, r);
     slots::lay(out, &v)
 }

@@ -1,0 +1,16 @@
+-- `number` meets its contract: each value is the one at its place.
+use borrow.Author.Needs.{needs}
+use Rattle.fromnumbers.proofs.values.number.Statement.{statement}
+use Rattle.fromnumbers.proofs.values.number.Tie as tie
+
+returns : tie.Need-returns
+returns c = rw (c .before .there .ensures, c .at .ensures)
+
+pub number-spec : {M : Type 1} → statement M
+number-spec =
+    tie.close
+    (tie.spec
+    (λ c κs. search needs)
+    (λ c. search needs)
+    (λ c κs. search needs)
+    returns)

@@ -1,0 +1,19 @@
+-- `zone` meets its contract: each value is the one at its place.
+use mir.Syntax.{w32}
+use mir.Facts.{toZ-ofZ}
+use borrow.Author.Needs.{needs}
+use Rattle.fromnumbers.proofs.values.zone.Statement.{statement}
+use Rattle.fromnumbers.proofs.values.zone.Tie as tie
+
+returns : tie.Need-returns
+returns c = rw (c .before .before .there .ensures, toZ-ofZ {w = w32} {z = c .signed .result} (search needs), c .signed .ensures, c .before .at .ensures)
+
+pub zone-spec : {M : Type 1} → statement M
+zone-spec =
+    tie.close
+    (tie.spec
+    (λ c κs. search needs)
+    (λ c. search needs)
+    (λ c κs. search needs)
+    (λ c κs. search needs)
+    returns)

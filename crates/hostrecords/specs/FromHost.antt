@@ -1,0 +1,82 @@
+-- What a host writes: the record of a kind that its numbers say, by the writer of that kind. What is no record is refused on line 0.
+use Prim.Native.Nat.{ℕ}
+use mathlib.Core.List.{List, []}
+use lib.Dec.{eqb}
+use lib.ListN.{length}
+use Rattle.records.specs.declared.Gsa.{Gsa}
+use Rattle.records.specs.declared.Gsv.{Gsv}
+use Rattle.records.specs.declared.Reading.{Reading}
+use Rattle.records.specs.declared.Sentence.{Sentence}
+use Rattle.records.specs.declared.Sentence.the-variants as S
+use Rattle.sealing.specs.declared.Written.{Written}
+use Rattle.sealing.specs.Written.{pick, refused, faultAt, writtenOf, leftOf}
+use Rattle.writenav.specs.Gga.{ggaWrong, ggaBody}
+use Rattle.writenav.specs.Gll.{gllWrong, gllBody}
+use Rattle.writesat.specs.Gsa.{gsaWrong, gsaBody}
+use Rattle.writesat.specs.Gsv.{gsvFault, gsvBody}
+use Rattle.writenav.specs.Rmc.{rmcWrong, rmcBody}
+use Rattle.writenav.specs.Vtg.{vtgWrong, vtgBody}
+use Rattle.writenav.specs.Zda.{zdaWrong, zdaBody}
+use Rattle.writecom.specs.Pirpr.{pirprWrong, pirprBody}
+use Rattle.writecom.specs.Pirtr.{pirtrWrong, pirtrBody}
+use Rattle.writecom.specs.Pirsr.{pirsrWrong, pirsrBody}
+use Rattle.writecom.specs.Pirer.{pirerBody}
+use Rattle.writecom.specs.Pirpa.{pirpaWrong, pirpaBody}
+use Rattle.writecom.specs.Pirta.{pirtaWrong, pirtaBody}
+use Rattle.writecom.specs.Pirsa.{pirsaWrong, pirsaBody}
+use Rattle.writecom.specs.Pirea.{pireaWrong, pireaBody}
+use Rattle.fromnumbers.specs.Back.{recordAt}
+
+-- A refusal is handed back on line 0; one without a number is 3, as of an unknown kind.
+unfoldable pub refusedBy : ℕ → ℕ → Written
+refusedBy n field = pick (eqb n 0) (refused 3 0 0) (refused n 0 field)
+
+-- The fault of a record, and the body of its line.
+abbrev pub sentenceFault : Sentence → Gsa → Gsv → Written
+sentenceFault (S.Gga t r) gsa gsv = faultAt (ggaWrong r)
+sentenceFault (S.Gll t r) gsa gsv = faultAt (gllWrong r)
+sentenceFault (S.Gsa t) gsa gsv = faultAt (gsaWrong gsa)
+sentenceFault (S.Gsv t) gsa gsv = gsvFault gsv
+sentenceFault (S.Rmc t r) gsa gsv = faultAt (rmcWrong r)
+sentenceFault (S.Vtg t r) gsa gsv = faultAt (vtgWrong r)
+sentenceFault (S.Zda t r) gsa gsv = faultAt (zdaWrong r)
+sentenceFault (S.Pr r) gsa gsv = faultAt (pirprWrong r)
+sentenceFault (S.Tr r) gsa gsv = faultAt (pirtrWrong r)
+sentenceFault (S.Sr r) gsa gsv = faultAt (pirsrWrong r)
+sentenceFault S.Er gsa gsv = faultAt 0
+sentenceFault (S.Pa r) gsa gsv = faultAt (pirpaWrong r)
+sentenceFault (S.Ta r) gsa gsv = faultAt (pirtaWrong r)
+sentenceFault (S.Sa r) gsa gsv = faultAt (pirsaWrong r)
+sentenceFault (S.Ea r) gsa gsv = faultAt (pireaWrong r)
+sentenceFault (S.Refused n field) gsa gsv = refusedBy n field
+
+abbrev pub sentenceBody : Sentence → Gsa → Gsv → List ℕ
+sentenceBody (S.Gga t r) gsa gsv = ggaBody t r
+sentenceBody (S.Gll t r) gsa gsv = gllBody t r
+sentenceBody (S.Gsa t) gsa gsv = gsaBody t gsa
+sentenceBody (S.Gsv t) gsa gsv = gsvBody t gsv
+sentenceBody (S.Rmc t r) gsa gsv = rmcBody t r
+sentenceBody (S.Vtg t r) gsa gsv = vtgBody t r
+sentenceBody (S.Zda t r) gsa gsv = zdaBody t r
+sentenceBody (S.Pr r) gsa gsv = pirprBody r
+sentenceBody (S.Tr r) gsa gsv = pirtrBody r
+sentenceBody (S.Sr r) gsa gsv = pirsrBody r
+sentenceBody S.Er gsa gsv = pirerBody
+sentenceBody (S.Pa r) gsa gsv = pirpaBody r
+sentenceBody (S.Ta r) gsa gsv = pirtaBody r
+sentenceBody (S.Sa r) gsa gsv = pirsaBody r
+sentenceBody (S.Ea r) gsa gsv = pireaBody r
+sentenceBody (S.Refused n field) gsa gsv = []
+
+abbrev pub recordFault : Reading → Written
+recordFault r = sentenceFault (r .sentence) (r .gsa) (r .gsv)
+
+abbrev pub recordBody : Reading → List ℕ
+recordBody r = sentenceBody (r .sentence) (r .gsa) (r .gsv)
+
+-- What comes of numbers of a kind that are written into an output, and the output after it.
+abbrev pub writtenAs : ℕ → List ℕ → List ℕ → Written
+writtenAs kind numbers out = writtenOf (recordFault (recordAt kind numbers)) (recordBody (recordAt kind numbers)) (length out)
+
+abbrev pub leftAs : ℕ → List ℕ → List ℕ → List ℕ
+leftAs kind numbers out = leftOf (recordFault (recordAt kind numbers)) (recordBody (recordAt kind numbers)) out

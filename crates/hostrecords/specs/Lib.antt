@@ -1,0 +1,2 @@
+pub mod ToHost
+pub mod FromHost

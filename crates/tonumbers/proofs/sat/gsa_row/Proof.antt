@@ -1,0 +1,47 @@
+-- `gsa_row` meets its contract: it takes the numbers that its two parts have, one by one.
+use Rattle.tonumbers.proofs.Laying.{gsa-row-is}
+use borrow.Author.Needs.{needs}
+use Rattle.tonumbers.proofs.sat.gsa_row.Statement.{statement}
+use Rattle.tonumbers.proofs.sat.gsa_row.Tie as tie
+
+returns : tie.Need-returns
+returns c = gsa-row-is (c .before .before .before .args .t) (c .before .before .before .args .r) _ _ _ (c .before .before .talker-number .ensures) (c .before .first-six .ensures) (c .rest .ensures)
+
+pub gsa-row-spec : {M : Type 1} → statement M
+gsa-row-spec =
+    tie.close
+    (tie.spec
+    (λ c κs. search needs)
+    (λ c κs. search needs)
+    (λ c κs. search needs)
+    (λ c. search needs)
+    (λ c. search needs)
+    (λ c. search needs)
+    (λ c. search needs)
+    (λ c. search needs)
+    (λ c. search needs)
+    (λ c. search needs)
+    (λ c. search needs)
+    (λ c. search needs)
+    (λ c. search needs)
+    (λ c. search needs)
+    (λ c. search needs)
+    (λ c. search needs)
+    (λ c. search needs)
+    (λ c. search needs)
+    (λ c. search needs)
+    (λ c. search needs)
+    (λ c. search needs)
+    (λ c. search needs)
+    (λ c. search needs)
+    (λ c. search needs)
+    (λ c. search needs)
+    (λ c. search needs)
+    (λ c. search needs)
+    (λ c. search needs)
+    (λ c. search needs)
+    (λ c. search needs)
+    (λ c. search needs)
+    (λ c. search needs)
+    (λ c. search needs)
+    returns)
