@@ -17,7 +17,7 @@ use Rattle.sky.specs.Group.{Answer, whole, refused}
 use Rattle.sky.specs.Sky.{skyOf}
 use Rattle.slots.specs.Slots.{laid}
 use Rattle.skynumbers.specs.Numbers.{skyNumbers}
-use Rattle.host.specs.Group.{Handed, handed}
+use Rattle.host.specs.Group.{handed}
 
 pub few : (a : Answer) (s : Sky) → s ≡ skyOf a → length (s .table .entries) ≡ 36 → s .table .count ≤ 36
 few a s e h = rw e (go a (sym (ap (λ (s : Sky). length (s .table .entries)) e) ∙ h))

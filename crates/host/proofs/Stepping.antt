@@ -1,9 +1,8 @@
 -- The step on numbers, by the tests of its definition in order.
 use Prim.Native.Nat.{ℕ, _≤_, _<_}
-use mathlib.Core.Path.{_≡_, refl, sym, _∙_, ap}
+use mathlib.Core.Path.{_≡_, sym, _∙_, ap}
 use mathlib.Core.Bool.{Bool}
 use mathlib.Core.List.{List}
-use lib.Dec.{eqb}
 use lib.ListN.{length}
 use borrow.Author.Tests.{lt-ltb, le-ltb, eq-eqb, ne-eqb}
 use Rattle.receiver.specs.declared.Done.{Done}
@@ -13,7 +12,7 @@ use Rattle.sealing.specs.declared.Written.{Written}
 use Rattle.sealing.specs.Written.{pick, refused}
 use Rattle.slots.specs.Slots.{laid}
 use Rattle.settingnumbers.specs.Numbers.{settingNumbers, settingsAt}
-use Rattle.host.specs.Command.{Stepped, carried, stepped}
+use Rattle.host.specs.Command.{carried, stepped}
 
 module _ (n : List ℕ) (arrival : ℕ) (line out : List ℕ) where
   abbrev Steps : Written → List ℕ → List ℕ → Type 0
