@@ -11,3 +11,4 @@ pub mod Skies
 pub mod Commands
 pub mod Replies
 pub mod Faultless
+pub mod DeterminedReceiver
