@@ -1,1 +1,4 @@
+pub mod Rooms
 pub mod Skies
+pub mod Puts
+pub mod Stepping

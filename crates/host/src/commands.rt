@@ -1,11 +1,19 @@
 // The class receiver as Rust or C keeps it: its settings as eleven numbers, and the step of a command.
 use receiver::Counts;
 use sealing::Written;
+ghost use mathlib.Core.Path.{_≡_};
+ghost use Rattle.receiver.specs.Settings.{atStart};
+ghost use Rattle.slots.specs.Slots.{laid};
+ghost use Rattle.settingnumbers.specs.Numbers.{settingNumbers};
+ghost use Rattle.host.specs.Command.{startNo, stepped, countsAt};
 
 // Stores the settings at start as eleven numbers at the start of `settings`, and returns 0; or 8 where that is too
 // short, and then `settings` is left.
 #[no_mangle]
-pub extern "C" fn castanwel_start(settings: &mut [u32]) -> u8 {
+pub extern "C" fn castanwel_start(settings: &mut [u32]) -> u8
+    ensures { λ r. ⌜ r ≡ startNo (now (settings .entry)) ⌝ }
+    ensures { λ _. ⌜ now (settings .exit) ≡ laid (settingNumbers atStart) (now (settings .entry)) ⌝ }
+{
     if settingnumbers::lay(settings, receiver::state::at_start()) {
         return 0;
     }
@@ -14,7 +22,11 @@ pub extern "C" fn castanwel_start(settings: &mut [u32]) -> u8 {
 
 // Carries out the command in `line` on the settings that eleven numbers say, and stores the settings after it
 // there. Refused: 5 with line 0 where there are fewer; then as `receiver::step` does.
-fn step(settings: &mut [u32], arrival: u32, line: &[u8], out: &mut [u8]) -> Written {
+fn step(settings: &mut [u32], arrival: u32, line: &[u8], out: &mut [u8]) -> Written
+    ensures { λ w. ⌜ w ≡ stepped (now (settings .entry)) arrival (now (line .entry)) (now (out .entry)) .answer ⌝ }
+    ensures { λ _. ⌜ now (settings .exit) ≡ stepped (now (settings .entry)) arrival (now (line .entry)) (now (out .entry)) .numbers ⌝ }
+    ensures { λ _. ⌜ now (out .exit) ≡ stepped (now (settings .entry)) arrival (now (line .entry)) (now (out .entry)) .out ⌝ }
+{
     if settings.len() < 11 {
         return sealing::refuse(5, 0, 0);
     }
@@ -39,7 +51,14 @@ pub extern "C" fn castanwel_step(
     length: &mut usize,
     at_line: &mut usize,
     field: &mut usize,
-) -> u8 {
+) -> u8
+    ensures { λ r. ⌜ r ≡ stepped (now (settings .entry)) arrival (now (line .entry)) (now (out .entry)) .answer .no ⌝ }
+    ensures { λ _. ⌜ now (length .exit) ≡ stepped (now (settings .entry)) arrival (now (line .entry)) (now (out .entry)) .answer .length ⌝ }
+    ensures { λ _. ⌜ now («at_line» .exit) ≡ stepped (now (settings .entry)) arrival (now (line .entry)) (now (out .entry)) .answer .line ⌝ }
+    ensures { λ _. ⌜ now (field .exit) ≡ stepped (now (settings .entry)) arrival (now (line .entry)) (now (out .entry)) .answer .field ⌝ }
+    ensures { λ _. ⌜ now (settings .exit) ≡ stepped (now (settings .entry)) arrival (now (line .entry)) (now (out .entry)) .numbers ⌝ }
+    ensures { λ _. ⌜ now (out .exit) ≡ stepped (now (settings .entry)) arrival (now (line .entry)) (now (out .entry)) .out ⌝ }
+{
     let written = step(settings, arrival, line, out);
     *length = written.length;
     *at_line = written.line;
@@ -49,7 +68,9 @@ pub extern "C" fn castanwel_step(
 
 // How many satellites the settings allow that eleven numbers say. Refused: 5 where there are fewer or where a setting
 // is out of its range.
-fn counts(settings: &[u32]) -> Counts {
+fn counts(settings: &[u32]) -> Counts
+    ensures { λ c. ⌜ c ≡ countsAt (now (settings .entry)) ⌝ }
+{
     if settings.len() < 11 {
         return Counts {
             no: 5,
@@ -65,7 +86,11 @@ fn counts(settings: &[u32]) -> Counts {
 // Sets `gps` and `glonass` to how many satellites of each the settings allow, and returns 0; or 5 where the settings
 // are not eleven numbers in range, and then both are set to 0.
 #[no_mangle]
-pub extern "C" fn castanwel_counts(settings: &[u32], gps: &mut u32, glonass: &mut u32) -> u8 {
+pub extern "C" fn castanwel_counts(settings: &[u32], gps: &mut u32, glonass: &mut u32) -> u8
+    ensures { λ r. ⌜ r ≡ countsAt (now (settings .entry)) .no ⌝ }
+    ensures { λ _. ⌜ now (gps .exit) ≡ countsAt (now (settings .entry)) .gps ⌝ }
+    ensures { λ _. ⌜ now (glonass .exit) ≡ countsAt (now (settings .entry)) .glonass ⌝ }
+{
     let counts = counts(settings);
     *gps = counts.gps;
     *glonass = counts.glonass;

@@ -1,6 +1,9 @@
 // Groups of satellites as Rust or C reads and writes them, as 254 numbers.
 use sealing::Written;
 use sky::Whose;
+ghost use mathlib.Core.Path.{_≡_};
+ghost use Rattle.sky.specs.Group.{groupOf};
+ghost use Rattle.host.specs.Group.{handed, groupPut};
 
 // Reads the lines in `s` as a group, and returns the number of its refusal, 0 where it is a whole sky. Then its
 // 254 numbers stand at the start of `numbers`; 8 where that is too short. `line` and `field` are set to those of the
@@ -11,7 +14,12 @@ pub extern "C" fn castanwel_read_group(
     numbers: &mut [u32],
     line: &mut usize,
     field: &mut usize,
-) -> u8 {
+) -> u8
+    ensures { λ r. ⌜ r ≡ handed (groupOf (now (s .entry))) (now (numbers .entry)) .no ⌝ }
+    ensures { λ _. ⌜ now (line .exit) ≡ handed (groupOf (now (s .entry))) (now (numbers .entry)) .line ⌝ }
+    ensures { λ _. ⌜ now (field .exit) ≡ handed (groupOf (now (s .entry))) (now (numbers .entry)) .field ⌝ }
+    ensures { λ _. ⌜ now (numbers .exit) ≡ handed (groupOf (now (s .entry))) (now (numbers .entry)) .numbers ⌝ }
+{
     let sky = readsky::read(s);
     let whose = sky.talker;
     let table = sky.table;
@@ -28,7 +36,10 @@ pub extern "C" fn castanwel_read_group(
 
 // Writes the group that 254 numbers say. Refused: 5 where there are fewer, then 3 for a talker's number over 4,
 // both with line 0; then as `writesky::write` does.
-fn write_numbers(numbers: &[u32], out: &mut [u8]) -> Written {
+fn write_numbers(numbers: &[u32], out: &mut [u8]) -> Written
+    ensures { λ w. ⌜ w ≡ groupPut (now (numbers .entry)) (now (out .entry)) .answer ⌝ }
+    ensures { λ _. ⌜ now (out .exit) ≡ groupPut (now (numbers .entry)) (now (out .entry)) .out ⌝ }
+{
     if numbers.len() < 254 {
         return sealing::refuse(5, 0, 0);
     }
@@ -49,7 +60,13 @@ pub extern "C" fn castanwel_write_group(
     length: &mut usize,
     line: &mut usize,
     field: &mut usize,
-) -> u8 {
+) -> u8
+    ensures { λ r. ⌜ r ≡ groupPut (now (numbers .entry)) (now (out .entry)) .answer .no ⌝ }
+    ensures { λ _. ⌜ now (length .exit) ≡ groupPut (now (numbers .entry)) (now (out .entry)) .answer .length ⌝ }
+    ensures { λ _. ⌜ now (line .exit) ≡ groupPut (now (numbers .entry)) (now (out .entry)) .answer .line ⌝ }
+    ensures { λ _. ⌜ now (field .exit) ≡ groupPut (now (numbers .entry)) (now (out .entry)) .answer .field ⌝ }
+    ensures { λ _. ⌜ now (out .exit) ≡ groupPut (now (numbers .entry)) (now (out .entry)) .out ⌝ }
+{
     let written = write_numbers(numbers, out);
     *length = written.length;
     *line = written.line;

@@ -1,6 +1,6 @@
 -- Before place i of the table the numbers of the places before it stand behind the first two; the seven of place i are laid into what is
 -- left, and stand behind them then.
-use Prim.Native.Nat.{ℕ, suc, _+_, _-_, _*_, _≤_, _<_}
+use Prim.Native.Nat.{ℕ, _+_, _-_, _*_, _≤_, _<_}
 use mathlib.Core.Path.{_≡_, refl, sym, _∙_, ap}
 use mathlib.Core.Bool.{true, false}
 use mathlib.Core.List.{List, [], _∷_, _++_, append-assoc, append-nil}
@@ -18,7 +18,7 @@ use Rattle.sky.specs.declared.Table.{Table}
 use Rattle.slots.specs.Slots.{laid, talkerNumber}
 use Rattle.skynumbers.specs.Numbers.{entryNumbers, placeNumbers, skyNumbers}
 
-laid-is : (v out : List ℕ) → length v ≤ length out → laid v out ≡ v ++ drop (length v) out
+pub laid-is : (v out : List ℕ) → length v ≤ length out → laid v out ≡ v ++ drop (length v) out
 unfolding laid
 laid-is v out h = rw (le-leb (length v) (length out) h)
 

@@ -1,3 +1,4 @@
+-- Each setting is the number in its place.
 use mir.Syntax.{w32}
 use mir.Facts.{toZ-ofZ}
 use borrow.Author.Needs.{needs}

@@ -1,3 +1,4 @@
+-- The numbers are those of the settings, the zone by its bits.
 use mir.Syntax.{w32}
 use mir.Facts.{toZ-ofZ}
 use mathlib.Core.Path.{_∙_}

@@ -1,3 +1,4 @@
+-- The entry has the number in its place and the three values behind it.
 use borrow.Author.Needs.{needs}
 use Rattle.skynumbers.proofs.entry_at.Statement.{statement}
 use Rattle.skynumbers.proofs.entry_at.Tie as tie

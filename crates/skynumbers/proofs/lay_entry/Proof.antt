@@ -1,3 +1,4 @@
+-- The seven numbers are those of the entry, each mark by its value.
 use mathlib.Core.Path.{_∙_}
 use borrow.Author.Needs.{needs}
 use Rattle.skynumbers.proofs.lay_entry.Statement.{statement}

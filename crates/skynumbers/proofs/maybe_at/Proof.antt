@@ -1,3 +1,4 @@
+-- The value stands behind its mark.
 use borrow.Author.Needs.{needs}
 use Rattle.skynumbers.proofs.maybe_at.Statement.{statement}
 use Rattle.skynumbers.proofs.maybe_at.Tie as tie

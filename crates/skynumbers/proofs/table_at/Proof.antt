@@ -1,9 +1,8 @@
 -- The entries before place i are taken; the laws stand in Taking.
 use Prim.Native.Nat.{_-_}
-use mathlib.Core.Path.{_≡_, refl}
+use mathlib.Core.Path.{refl}
 use native.Mathlib.Omega.{arith}
 use borrow.Author.Needs.{needs}
-use lib.ListN.{length}
 use Rattle.skynumbers.specs.Numbers.{tableAt}
 use Rattle.skynumbers.proofs.Taking.{Taken, taken-none, taken-next, taken-all}
 use Rattle.skynumbers.proofs.table_at.Statement.{statement}

@@ -1,0 +1,49 @@
+-- The step on numbers, by the tests of its definition in order.
+use Prim.Native.Nat.{ℕ, _≤_, _<_}
+use mathlib.Core.Path.{_≡_, sym, _∙_, ap}
+use mathlib.Core.Bool.{Bool}
+use mathlib.Core.List.{List}
+use lib.ListN.{length}
+use borrow.Author.Tests.{lt-ltb, le-ltb, eq-eqb, ne-eqb}
+use Rattle.receiver.specs.declared.Done.{Done}
+use Rattle.receiver.specs.declared.Settings.{Settings}
+use Rattle.receiver.specs.Command.{Outcome, outcomeOf, answerOf, settingsAfter, Does}
+use Rattle.sealing.specs.declared.Written.{Written}
+use Rattle.sealing.specs.Written.{pick, refused}
+use Rattle.slots.specs.Slots.{laid}
+use Rattle.settingnumbers.specs.Numbers.{settingNumbers, settingsAt}
+use Rattle.host.specs.Command.{carried, stepped}
+
+module _ (n : List ℕ) (arrival : ℕ) (line out : List ℕ) where
+  abbrev Steps : Written → List ℕ → List ℕ → Type 0
+  Steps w numbers left =
+      (w ≡ stepped n arrival line out .answer) × ((numbers ≡ stepped n arrival line out .numbers) × (left ≡ stepped n arrival line out .out))
+
+  pub short : length n < 11 → {w : Written} → w ≡ refused 5 0 0 → Steps w n out
+  unfolding stepped
+  short h q = let e = lt-ltb (length n) 11 h in (q ∙ rw e, (rw e, rw e))
+
+  -- What the outcome comes to, laid where it is answered.
+  abbrev outcome : Outcome
+  outcome = outcomeOf (settingsAt n) arrival line
+
+  abbrev after : List ℕ
+  after = laid (settingNumbers (settingsAfter (settingsAt n) outcome (length out))) n
+
+  module _ (h : 11 ≤ length n) {d : Done} {left : List ℕ} (does : Does (settingsAt n) outcome out d left) where
+    goes : {numbers : List ℕ} → numbers ≡ carried n outcome out .numbers → Steps (d .written) numbers left
+    unfolding stepped
+    goes q = let e = le-ltb (length n) 11 h in (does .answers ∙ rw e, (q ∙ rw e, does .leaves ∙ rw e))
+
+    no-is : d .written .no ≡ answerOf outcome (length out) .no
+    no-is = ap (λ (w : Written). w .no) (does .answers)
+
+    pub answered : d .written .no ≡ 0 → {numbers : List ℕ} → numbers ≡ laid (settingNumbers (d .settings)) n → Steps (d .written) numbers left
+    answered z q =
+        goes
+        (q
+        ∙ ap (λ (s : Settings). laid (settingNumbers s) n) (does .settings)
+        ∙ sym (ap (λ (b : Bool). pick b after n) (eq-eqb (answerOf outcome (length out) .no) 0 (sym no-is ∙ z))))
+
+    pub refuses : (d .written .no ≡ 0 → ⊥) → Steps (d .written) n left
+    refuses z = goes (sym (ap (λ (b : Bool). pick b after n) (ne-eqb (answerOf outcome (length out) .no) 0 (λ e. z (no-is ∙ e)))))

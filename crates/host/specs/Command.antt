@@ -1,0 +1,48 @@
+-- The class receiver on the numbers of its settings. Fewer than eleven are refused before all else: 5 with line 0 and field 0.
+use Prim.Native.Nat.{ℕ}
+use mathlib.Core.Bool.{cond}
+use mathlib.Core.List.{List}
+use lib.Dec.{eqb, ltb}
+use lib.ListN.{length}
+use Rattle.receiver.specs.declared.Counts.{Counts}
+use Rattle.receiver.specs.Command.{Outcome, outcomeOf, answerOf, settingsAfter, outputAfter}
+use Rattle.receiver.specs.Settings.{countsOf}
+use Rattle.sealing.specs.declared.Written.{Written}
+use Rattle.sealing.specs.Written.{pick, refused}
+use Rattle.slots.specs.Slots.{laid}
+use Rattle.settingnumbers.specs.Numbers.{settingNumbers, settingsAt}
+
+-- At start: 8 where there is no room for eleven numbers.
+abbrev pub startNo : List ℕ → ℕ
+startNo numbers = cond (ltb (length numbers) 11) 8 0
+
+-- What a command comes to: its answer, the numbers of the settings after it, and the output after it.
+pub record Stepped : Type 0 where
+  pub answer : Written
+  pub numbers : List ℕ
+  pub out : List ℕ
+
+-- The settings after a command are laid where it is answered; a refusal leaves the numbers.
+abbrev pub carried : List ℕ → Outcome → List ℕ → Stepped
+carried numbers o out =
+    record {
+      answer = answerOf o (length out);
+      numbers =
+          pick (eqb (answerOf o (length out) .no) 0)
+          (laid (settingNumbers (settingsAfter (settingsAt numbers) o (length out))) numbers)
+          numbers;
+      out = outputAfter o out;
+    }
+
+unfoldable pub stepped : List ℕ → ℕ → List ℕ → List ℕ → Stepped
+stepped numbers arrival line out =
+    pick (ltb (length numbers) 11)
+    (record { answer = refused 5 0 0; numbers = numbers; out = out })
+    (carried numbers (outcomeOf (settingsAt numbers) arrival line) out)
+
+-- How many satellites the settings allow.
+unfoldable pub countsAt : List ℕ → Counts
+countsAt numbers =
+    pick (ltb (length numbers) 11)
+    (record { no = 5; line = 0; field = 0; gps = 0; glonass = 0 })
+    (countsOf (settingsAt numbers))
