@@ -8,17 +8,14 @@ use address::Address;
 use address::Kind;
 use address::Pir;
 use address::Talker;
-use records::Reading;
-use records::Sentence;
-use records::blank;
 ghost use mathlib.Core.Path.{_≡_};
 ghost use Rattle.tonumbers.specs.Layout.{countOf};
-ghost use Rattle.fromnumbers.specs.Back.{knownOf, addressAt, standardAt, makerAt, recordAt};
+ghost use Rattle.fromnumbers.specs.Back.{knownOf, addressAt};
 
 const COUNTS: [usize; 16] = [0, 19, 8, 33, 33, 18, 10, 9, 8, 4, 4, 0, 4, 2, 2, 1];
 
 // How many numbers a kind has; 0 for what is no kind.
-fn count_of(kind: u32) -> usize
+pub fn count_of(kind: u32) -> usize
     ensures { λ r. ⌜ r ≡ countOf kind ⌝ }
 {
     if kind < 16 {
@@ -52,64 +49,11 @@ fn known(kind: u32, t: Talker) -> Address
 }
 
 // The same for a talker's number; unknown where a talker's sentence has none with that number.
-fn address_at(kind: u32, talker: u32) -> Address
+pub fn address_at(kind: u32, talker: u32) -> Address
     ensures { λ r. ⌜ r ≡ addressAt kind talker ⌝ }
 {
     if (kind < 8) & (4 < talker) {
         return Address::Unknown;
     }
     known(kind, slots::talker_of(talker))
-}
-
-fn standard(t: Talker, k: Kind, n: &[u32]) -> Reading
-    ensures { λ r. ⌜ r ≡ standardAt t k (now (n .entry)) ⌝ }
-{
-    match k {
-        Kind::Gga => blank::alone(Sentence::Gga(t, nav::gga(n))),
-        Kind::Gll => blank::alone(Sentence::Gll(t, nav::gll(n))),
-        Kind::Gsa => Reading {
-            sentence: Sentence::Gsa(t),
-            gsa: sat::gsa(n),
-            gsv: blank::gsv(),
-        },
-        Kind::Gsv => Reading {
-            sentence: Sentence::Gsv(t),
-            gsa: blank::gsa(),
-            gsv: sat::gsv(n),
-        },
-        Kind::Rmc => blank::alone(Sentence::Rmc(t, nav::rmc(n))),
-        Kind::Vtg => blank::alone(Sentence::Vtg(t, nav::vtg(n))),
-        Kind::Zda => blank::alone(Sentence::Zda(t, nav::zda(n))),
-    }
-}
-
-fn maker(k: Pir, n: &[u32]) -> Reading
-    ensures { λ r. ⌜ r ≡ makerAt k (now (n .entry)) ⌝ }
-{
-    match k {
-        Pir::Pr => blank::alone(Sentence::Pr(com::pirpr(n))),
-        Pir::Tr => blank::alone(Sentence::Tr(com::pirtr(n))),
-        Pir::Sr => blank::alone(Sentence::Sr(com::pirsr(n))),
-        Pir::Er => blank::alone(Sentence::Er),
-        Pir::Pa => blank::alone(Sentence::Pa(com::pirpa(n))),
-        Pir::Ta => blank::alone(Sentence::Ta(com::pirta(n))),
-        Pir::Sa => blank::alone(Sentence::Sa(com::pirsa(n))),
-        Pir::Ea => blank::alone(Sentence::Ea(com::pirea(n))),
-    }
-}
-
-// The record of a kind that the numbers say. Refused: 5 where there are fewer numbers than the kind has,
-// 3 for what is no kind, or no talker of a kind that has one. Numbers past the kind's are not looked at.
-pub fn record_at(kind: u32, n: &[u32]) -> Reading
-    ensures { λ r. ⌜ r ≡ recordAt kind (now (n .entry)) ⌝ }
-{
-    if n.len() < count_of(kind) {
-        return blank::alone(Sentence::Refused(5, 0));
-    }
-    let address = address_at(kind, slots::at(n, 0));
-    match address {
-        Address::Standard(t, k) => standard(t, k, n),
-        Address::Maker(k) => maker(k, n),
-        Address::Unknown => blank::alone(Sentence::Refused(3, 0)),
-    }
 }

@@ -2,6 +2,7 @@
 // talker before those of a talker's sentence.
 pub mod writing;
 
+use address::Address;
 use reading::Refusal;
 use sealing::Written;
 ghost use mathlib.Core.Path.{_≡_};
@@ -61,6 +62,13 @@ pub fn write(kind: u32, numbers: &[u32], out: &mut [u8]) -> Written
     ensures { λ w. ⌜ w ≡ writtenAs kind (now (numbers .entry)) (now (out .entry)) ⌝ }
     ensures { λ _. ⌜ now (out .exit) ≡ leftAs kind (now (numbers .entry)) (now (out .entry)) ⌝ }
 {
-    let reading = fromnumbers::record_at(kind, numbers);
-    writing::write(out, reading)
+    if numbers.len() < fromnumbers::count_of(kind) {
+        return sealing::refuse(5, 0, 0);
+    }
+    let address = fromnumbers::address_at(kind, slots::at(numbers, 0));
+    match address {
+        Address::Standard(t, k) => writing::standard(out, t, k, numbers),
+        Address::Maker(k) => writing::maker(out, k, numbers),
+        Address::Unknown => sealing::refuse(3, 0, 0),
+    }
 }

@@ -1,44 +1,38 @@
-// One writer for the records of all fifteen kinds.
-use records::Reading;
-use records::Sentence;
+// The record that numbers say, handed to the writer of its kind: a talker's sentence, and one of the maker.
+use address::Kind;
+use address::Pir;
+use address::Talker;
 use sealing::Written;
 ghost use mathlib.Core.Path.{_≡_};
 ghost use Rattle.sealing.specs.Written.{Writes};
-ghost use Rattle.hostrecords.specs.FromHost.{refusedBy, recordFault, recordBody};
+ghost use Rattle.fromnumbers.specs.Back.{standardAt, makerAt};
+ghost use Rattle.hostrecords.specs.FromHost.{recordFault, recordBody};
 
-// A refusal on line 0; one without a number is 3, as of an unknown kind.
-fn refused(no: u8, field: usize) -> Written
-    ensures { λ r. ⌜ r ≡ refusedBy no field ⌝ }
+pub fn standard(out: &mut [u8], t: Talker, k: Kind, n: &[u32]) -> Written
+    ensures { λ w. ⌜ Writes (recordFault (standardAt t k (now (n .entry)))) (recordBody (standardAt t k (now (n .entry)))) (now (out .entry)) w (now (out .exit)) ⌝ }
 {
-    if no == 0 {
-        return sealing::refuse(3, 0, 0);
+    match k {
+        Kind::Gga => writenav::gga::write(out, t, fromnumbers::nav::gga(n)),
+        Kind::Gll => writenav::gll::write(out, t, fromnumbers::nav::gll(n)),
+        Kind::Gsa => writesat::gsa::write(out, t, fromnumbers::sat::gsa(n)),
+        Kind::Gsv => writesat::gsv::write(out, t, fromnumbers::sat::gsv(n)),
+        Kind::Rmc => writenav::rmc::write(out, t, fromnumbers::nav::rmc(n)),
+        Kind::Vtg => writenav::vtg::write(out, t, fromnumbers::nav::vtg(n)),
+        Kind::Zda => writenav::zda::write(out, t, fromnumbers::nav::zda(n)),
     }
-    sealing::refuse(no, 0, field)
 }
 
-// Writes the line of a record into `out` by the writer of its kind; a refusal is handed back on line 0.
-pub fn write(out: &mut [u8], reading: Reading) -> Written
-    ensures { λ w. ⌜ Writes (recordFault reading) (recordBody reading) (now (out .entry)) w (now (out .exit)) ⌝ }
+pub fn maker(out: &mut [u8], k: Pir, n: &[u32]) -> Written
+    ensures { λ w. ⌜ Writes (recordFault (makerAt k (now (n .entry)))) (recordBody (makerAt k (now (n .entry)))) (now (out .entry)) w (now (out .exit)) ⌝ }
 {
-    let sentence = reading.sentence;
-    let gsa = reading.gsa;
-    let gsv = reading.gsv;
-    match sentence {
-        Sentence::Gga(t, r) => writenav::gga::write(out, t, r),
-        Sentence::Gll(t, r) => writenav::gll::write(out, t, r),
-        Sentence::Gsa(t) => writesat::gsa::write(out, t, gsa),
-        Sentence::Gsv(t) => writesat::gsv::write(out, t, gsv),
-        Sentence::Rmc(t, r) => writenav::rmc::write(out, t, r),
-        Sentence::Vtg(t, r) => writenav::vtg::write(out, t, r),
-        Sentence::Zda(t, r) => writenav::zda::write(out, t, r),
-        Sentence::Pr(r) => writecom::pirpr::write(out, r),
-        Sentence::Tr(r) => writecom::pirtr::write(out, r),
-        Sentence::Sr(r) => writecom::pirsr::write(out, r),
-        Sentence::Er => writecom::pirer::write(out),
-        Sentence::Pa(r) => writecom::pirpa::write(out, r),
-        Sentence::Ta(r) => writecom::pirta::write(out, r),
-        Sentence::Sa(r) => writecom::pirsa::write(out, r),
-        Sentence::Ea(r) => writecom::pirea::write(out, r),
-        Sentence::Refused(no, field) => refused(no, field),
+    match k {
+        Pir::Pr => writecom::pirpr::write(out, fromnumbers::com::pirpr(n)),
+        Pir::Tr => writecom::pirtr::write(out, fromnumbers::com::pirtr(n)),
+        Pir::Sr => writecom::pirsr::write(out, fromnumbers::com::pirsr(n)),
+        Pir::Er => writecom::pirer::write(out),
+        Pir::Pa => writecom::pirpa::write(out, fromnumbers::com::pirpa(n)),
+        Pir::Ta => writecom::pirta::write(out, fromnumbers::com::pirta(n)),
+        Pir::Sa => writecom::pirsa::write(out, fromnumbers::com::pirsa(n)),
+        Pir::Ea => writecom::pirea::write(out, fromnumbers::com::pirea(n)),
     }
 }

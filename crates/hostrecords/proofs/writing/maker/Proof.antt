@@ -1,0 +1,72 @@
+-- `maker` meets its contract: each of the maker's sentences has its record and its writer.
+use borrow.Author.Needs.{needs}
+use Rattle.hostrecords.proofs.writing.maker.Statement.{statement}
+use Rattle.hostrecords.proofs.writing.maker.Tie as tie
+
+returns : tie.Need-returns
+returns c = rw (c .before .before .before .before .before .enum-told .given .1, ← c .before .before .before .pirpr .ensures) (c .before .before .write .ensures)
+
+returns-2 : tie.Need-returns-2
+returns-2 c = rw (c .before .before .before .before .before .enum-told2 .given .1, ← c .before .before .before .pirtr .ensures) (c .before .before .write2 .ensures)
+
+returns-3 : tie.Need-returns-3
+returns-3 c = rw (c .before .before .before .before .before .enum-told3 .given .1, ← c .before .before .before .pirsr .ensures) (c .before .before .write3 .ensures)
+
+returns-4 : tie.Need-returns-4
+returns-4 c = rw (c .before .before .before .before .enum-told4 .given .1) (c .before .before .write4 .ensures)
+
+returns-5 : tie.Need-returns-5
+returns-5 c = rw (c .before .before .before .before .before .enum-told5 .given .1, ← c .before .before .before .pirpa .ensures) (c .before .before .write5 .ensures)
+
+returns-6 : tie.Need-returns-6
+returns-6 c = rw (c .before .before .before .before .before .enum-told6 .given .1, ← c .before .before .before .pirta .ensures) (c .before .before .write6 .ensures)
+
+returns-7 : tie.Need-returns-7
+returns-7 c = rw (c .before .before .before .before .before .enum-told7 .given .1, ← c .before .before .before .pirsa .ensures) (c .before .before .write7 .ensures)
+
+returns-8 : tie.Need-returns-8
+returns-8 c = rw (c .before .before .before .before .before .enum-told8 .given .1, ← c .before .before .before .pirea .ensures) (c .before .before .write8 .ensures)
+
+pub maker-spec : {M : Type 1} → statement M
+maker-spec =
+    tie.close
+    (tie.spec
+    (λ c. search needs)
+    (λ c κs. search needs)
+    (λ c κs. search needs)
+    (λ c. search needs)
+    (λ c κs. search needs)
+    (λ c κs. search needs)
+    (λ c. search needs)
+    (λ c κs. search needs)
+    (λ c κs. search needs)
+    (λ c. search needs)
+    (λ c κs. search needs)
+    (λ c. search needs)
+    (λ c κs. search needs)
+    (λ c κs. search needs)
+    (λ c. search needs)
+    (λ c κs. search needs)
+    (λ c κs. search needs)
+    (λ c. search needs)
+    (λ c κs. search needs)
+    (λ c κs. search needs)
+    (λ c. search needs)
+    (λ c κs. search needs)
+    (λ c κs. search needs)
+    (λ c. search needs)
+    returns
+    (λ c. search needs)
+    returns-2
+    (λ c. search needs)
+    returns-3
+    (λ c. search needs)
+    returns-4
+    (λ c. search needs)
+    returns-5
+    (λ c. search needs)
+    returns-6
+    (λ c. search needs)
+    returns-7
+    (λ c. search needs)
+    returns-8)
