@@ -15,3 +15,4 @@ pub mod Commands
 pub mod Replies
 pub mod Faultless
 pub mod DeterminedReceiver
+pub mod DeterminedHost
