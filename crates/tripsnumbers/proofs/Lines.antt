@@ -2,7 +2,7 @@
 use Prim.Native.Nat.{ℕ, _-_, _≤_, _<_}
 use mathlib.Core.Path.{_≡_, refl}
 use mathlib.Core.Bool.{Bool, true, false}
-use mathlib.Core.List.{List}
+use mathlib.Core.List.{List, _++_}
 use native.Mathlib.Omega.{arith}
 use lib.Dec.{eqb, lit<}
 use lib.IntN.{ℤ, pos, negsuc, natAbs}
@@ -105,34 +105,34 @@ pirta-fits : (r : DatumTold) → pirtaWrong r ≡ 0 → SFits w32 (r .zone)
 unfolding pirtaWrong
 pirta-fits r e = let z = all-zero _ e in signed-fits 839 true (r .zone) (lit< tt) (z .1 .0)
 
--- A record that was read is the one that its numbers say; a refused line has kind 0 and no record.
+-- A record that was read is the one that its numbers say, whatever numbers come after; a refused line has kind 0 and no record.
 abbrev pub Crosses : Reading → Type 0
-Crosses r = (kindOf (r .sentence) ≡ 0 → ⊥) → recordAt (kindOf (r .sentence)) (numbersOf r) ≡ r
+Crosses r = (kindOf (r .sentence) ≡ 0 → ⊥) → (rest : List ℕ) → recordAt (kindOf (r .sentence)) (numbersOf r ++ rest) ≡ r
 
 refused-crosses : (n f : ℕ) → Crosses (aloneOf (S.Refused n f))
-refused-crosses n f h = absurd (h refl)
+refused-crosses n f h rest = absurd (h refl)
 
 module _ (n : ℕ) (field : ℕ → List ℕ) where
   standard-crosses : (t : Talker) (k : Kind) → Crosses (standardOf t k n field)
   unfolding Held
-  standard-crosses t K.Gga = TGga.write-read t n field (λ (x : Sentence). Crosses (aloneOf x)) refused-crosses (λ r c w u h. back (S.Gga t r) blankGsa blankGsv (gga-fits r w))
-  standard-crosses t K.Gll = TGll.write-read t n field (λ (x : Sentence). Crosses (aloneOf x)) refused-crosses (λ r c w h. back (S.Gll t r) blankGsa blankGsv (gll-fits r w))
-  standard-crosses t K.Gsa = TGsa.write-read t n field (λ (x : Reading). Crosses x) refused-crosses (λ r e c w u h. back (S.Gsa t) r blankGsv e)
-  standard-crosses t K.Gsv = TGsvRead.write-read t field (λ (x : Reading). Crosses x) refused-crosses (λ r e g h. back (S.Gsv t) blankGsa r e) n
-  standard-crosses t K.Rmc = TRmc.write-read t n field (λ (x : Sentence). Crosses (aloneOf x)) refused-crosses (λ r c w u h. back (S.Rmc t r) blankGsa blankGsv (rmc-fits r w))
-  standard-crosses t K.Vtg = TVtg.write-read t n field (λ (x : Sentence). Crosses (aloneOf x)) refused-crosses (λ r c w h. back (S.Vtg t r) blankGsa blankGsv tt)
-  standard-crosses t K.Zda = TZda.write-read t n field (λ (x : Sentence). Crosses (aloneOf x)) refused-crosses (λ r c w h. back (S.Zda t r) blankGsa blankGsv (zda-fits r w))
+  standard-crosses t K.Gga = TGga.write-read t n field (λ (x : Sentence). Crosses (aloneOf x)) refused-crosses (λ r c w u h rest. back (S.Gga t r) blankGsa blankGsv rest (gga-fits r w))
+  standard-crosses t K.Gll = TGll.write-read t n field (λ (x : Sentence). Crosses (aloneOf x)) refused-crosses (λ r c w h rest. back (S.Gll t r) blankGsa blankGsv rest (gll-fits r w))
+  standard-crosses t K.Gsa = TGsa.write-read t n field (λ (x : Reading). Crosses x) refused-crosses (λ r e c w u h rest. back (S.Gsa t) r blankGsv rest e)
+  standard-crosses t K.Gsv = TGsvRead.write-read t field (λ (x : Reading). Crosses x) refused-crosses (λ r e g h rest. back (S.Gsv t) blankGsa r rest e) n
+  standard-crosses t K.Rmc = TRmc.write-read t n field (λ (x : Sentence). Crosses (aloneOf x)) refused-crosses (λ r c w u h rest. back (S.Rmc t r) blankGsa blankGsv rest (rmc-fits r w))
+  standard-crosses t K.Vtg = TVtg.write-read t n field (λ (x : Sentence). Crosses (aloneOf x)) refused-crosses (λ r c w h rest. back (S.Vtg t r) blankGsa blankGsv rest tt)
+  standard-crosses t K.Zda = TZda.write-read t n field (λ (x : Sentence). Crosses (aloneOf x)) refused-crosses (λ r c w h rest. back (S.Zda t r) blankGsa blankGsv rest (zda-fits r w))
 
   maker-crosses : (k : Pir) → Crosses (makerOf k n field)
   unfolding Held
-  maker-crosses P.Pr = TPirpr.write-read n field (λ (x : Sentence). Crosses (aloneOf x)) refused-crosses (λ r c w h. back (S.Pr r) blankGsa blankGsv tt)
-  maker-crosses P.Tr = TPirtr.write-read n field (λ (x : Sentence). Crosses (aloneOf x)) refused-crosses (λ r c w h. back (S.Tr r) blankGsa blankGsv (pirtr-fits r w))
-  maker-crosses P.Sr = TPirsr.write-read n field (λ (x : Sentence). Crosses (aloneOf x)) refused-crosses (λ r c w h. back (S.Sr r) blankGsa blankGsv tt)
-  maker-crosses P.Er = TPirer.write-read n field (λ (x : Sentence). Crosses (aloneOf x)) refused-crosses (λ h. back S.Er blankGsa blankGsv tt)
-  maker-crosses P.Pa = TPirpa.write-read n field (λ (x : Sentence). Crosses (aloneOf x)) refused-crosses (λ r c w h. back (S.Pa r) blankGsa blankGsv tt)
-  maker-crosses P.Ta = TPirta.write-read n field (λ (x : Sentence). Crosses (aloneOf x)) refused-crosses (λ r c w h. back (S.Ta r) blankGsa blankGsv (pirta-fits r w))
-  maker-crosses P.Sa = TPirsa.write-read n field (λ (x : Sentence). Crosses (aloneOf x)) refused-crosses (λ r c w h. back (S.Sa r) blankGsa blankGsv tt)
-  maker-crosses P.Ea = TPirea.write-read n field (λ (x : Sentence). Crosses (aloneOf x)) refused-crosses (λ r c w h. back (S.Ea r) blankGsa blankGsv tt)
+  maker-crosses P.Pr = TPirpr.write-read n field (λ (x : Sentence). Crosses (aloneOf x)) refused-crosses (λ r c w h rest. back (S.Pr r) blankGsa blankGsv rest tt)
+  maker-crosses P.Tr = TPirtr.write-read n field (λ (x : Sentence). Crosses (aloneOf x)) refused-crosses (λ r c w h rest. back (S.Tr r) blankGsa blankGsv rest (pirtr-fits r w))
+  maker-crosses P.Sr = TPirsr.write-read n field (λ (x : Sentence). Crosses (aloneOf x)) refused-crosses (λ r c w h rest. back (S.Sr r) blankGsa blankGsv rest tt)
+  maker-crosses P.Er = TPirer.write-read n field (λ (x : Sentence). Crosses (aloneOf x)) refused-crosses (λ h rest. back S.Er blankGsa blankGsv rest tt)
+  maker-crosses P.Pa = TPirpa.write-read n field (λ (x : Sentence). Crosses (aloneOf x)) refused-crosses (λ r c w h rest. back (S.Pa r) blankGsa blankGsv rest tt)
+  maker-crosses P.Ta = TPirta.write-read n field (λ (x : Sentence). Crosses (aloneOf x)) refused-crosses (λ r c w h rest. back (S.Ta r) blankGsa blankGsv rest (pirta-fits r w))
+  maker-crosses P.Sa = TPirsa.write-read n field (λ (x : Sentence). Crosses (aloneOf x)) refused-crosses (λ r c w h rest. back (S.Sa r) blankGsa blankGsv rest tt)
+  maker-crosses P.Ea = TPirea.write-read n field (λ (x : Sentence). Crosses (aloneOf x)) refused-crosses (λ r c w h rest. back (S.Ea r) blankGsa blankGsv rest tt)
 
   addressed-crosses : (a : Address) → Crosses (addressed a n field)
   addressed-crosses (Standard t k) = standard-crosses t k
