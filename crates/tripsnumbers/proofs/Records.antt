@@ -1,7 +1,9 @@
--- The record at the numbers of a record is that record, kind by kind: a mark says again whether its value is there, and a signed value that
--- fits 32 bits is again itself.
+-- The record at the numbers of a record is that record, kind by kind and whatever numbers come after: a mark says again whether its value is
+-- there, and a signed value that fits 32 bits is again itself.
+use Prim.Native.Nat.{ℕ}
 use mathlib.Core.Path.{_≡_, refl}
 use mathlib.Core.Bool.{Bool, true, false}
+use mathlib.Core.List.{List, _++_}
 use lib.IntN.{ℤ}
 use lib.ListN.{length, getD}
 use mir.Syntax.{w32}
@@ -46,44 +48,44 @@ GgaFits r = PlaceFits (r .place) × SFits w32 (r .altitude .value) × SFits w32 
 abbrev pub RmcFits : Rmc → Type 0
 RmcFits r = PlaceFits (r .place) × SFits w32 (r .variation .value)
 
-pub gga-back : (t : Talker) (r : Gga) → GgaFits r → ggaAt (ggaNumbers t r) ≡ r
-gga-back t r f = rw (mark-back (r .time .there), mark-back (r .place .there), int-back (r .place .lat) (f .0 .0), int-back (r .place .lon) (f .0 .1), mark-back (r .satellites .there), mark-back (r .hdop .there), mark-back (r .altitude .there), int-back (r .altitude .value) (f .1), mark-back (r .geoid .there), int-back (r .geoid .value) (f .2), mark-back (r .age .there), mark-back (r .station .there))
+pub gga-back : (t : Talker) (r : Gga) (rest : List ℕ) → GgaFits r → ggaAt (ggaNumbers t r ++ rest) ≡ r
+gga-back t r rest f = rw (mark-back (r .time .there), mark-back (r .place .there), int-back (r .place .lat) (f .0 .0), int-back (r .place .lon) (f .0 .1), mark-back (r .satellites .there), mark-back (r .hdop .there), mark-back (r .altitude .there), int-back (r .altitude .value) (f .1), mark-back (r .geoid .there), int-back (r .geoid .value) (f .2), mark-back (r .age .there), mark-back (r .station .there))
 
-pub gll-back : (t : Talker) (r : Gll) → PlaceFits (r .place) → gllAt (gllNumbers t r) ≡ r
-gll-back t r f = rw (mark-back (r .place .there), int-back (r .place .lat) (f .0), int-back (r .place .lon) (f .1), mark-back (r .time .there))
+pub gll-back : (t : Talker) (r : Gll) (rest : List ℕ) → PlaceFits (r .place) → gllAt (gllNumbers t r ++ rest) ≡ r
+gll-back t r rest f = rw (mark-back (r .place .there), int-back (r .place .lat) (f .0), int-back (r .place .lon) (f .1), mark-back (r .time .there))
 
-pub gsa-back : (t : Talker) (r : Gsa) → length (r .satellites) ≡ 12 → gsaAt (gsaNumbers t r) ≡ r
-gsa-back t r h = rw (mark-back (getD (r .satellites) 0 noMaybe .there), mark-back (getD (r .satellites) 1 noMaybe .there), mark-back (getD (r .satellites) 2 noMaybe .there), mark-back (getD (r .satellites) 3 noMaybe .there), mark-back (getD (r .satellites) 4 noMaybe .there), mark-back (getD (r .satellites) 5 noMaybe .there), mark-back (getD (r .satellites) 6 noMaybe .there), mark-back (getD (r .satellites) 7 noMaybe .there), mark-back (getD (r .satellites) 8 noMaybe .there), mark-back (getD (r .satellites) 9 noMaybe .there), mark-back (getD (r .satellites) 10 noMaybe .there), mark-back (getD (r .satellites) 11 noMaybe .there), mark-back (r .pdop .there), mark-back (r .hdop .there), mark-back (r .vdop .there), all-twelve noMaybe (r .satellites) h)
+pub gsa-back : (t : Talker) (r : Gsa) (rest : List ℕ) → length (r .satellites) ≡ 12 → gsaAt (gsaNumbers t r ++ rest) ≡ r
+gsa-back t r rest h = rw (mark-back (getD (r .satellites) 0 noMaybe .there), mark-back (getD (r .satellites) 1 noMaybe .there), mark-back (getD (r .satellites) 2 noMaybe .there), mark-back (getD (r .satellites) 3 noMaybe .there), mark-back (getD (r .satellites) 4 noMaybe .there), mark-back (getD (r .satellites) 5 noMaybe .there), mark-back (getD (r .satellites) 6 noMaybe .there), mark-back (getD (r .satellites) 7 noMaybe .there), mark-back (getD (r .satellites) 8 noMaybe .there), mark-back (getD (r .satellites) 9 noMaybe .there), mark-back (getD (r .satellites) 10 noMaybe .there), mark-back (getD (r .satellites) 11 noMaybe .there), mark-back (r .pdop .there), mark-back (r .hdop .there), mark-back (r .vdop .there), all-twelve noMaybe (r .satellites) h)
 
-pub gsv-back : (t : Talker) (r : Gsv) → length (r .entries) ≡ 4 → gsvAt (gsvNumbers t r) ≡ r
-gsv-back t r h = rw (mark-back (getD (r .entries) 0 blankEntry .elevation .there), mark-back (getD (r .entries) 0 blankEntry .azimuth .there), mark-back (getD (r .entries) 0 blankEntry .signal .there), mark-back (getD (r .entries) 1 blankEntry .elevation .there), mark-back (getD (r .entries) 1 blankEntry .azimuth .there), mark-back (getD (r .entries) 1 blankEntry .signal .there), mark-back (getD (r .entries) 2 blankEntry .elevation .there), mark-back (getD (r .entries) 2 blankEntry .azimuth .there), mark-back (getD (r .entries) 2 blankEntry .signal .there), mark-back (getD (r .entries) 3 blankEntry .elevation .there), mark-back (getD (r .entries) 3 blankEntry .azimuth .there), mark-back (getD (r .entries) 3 blankEntry .signal .there), all-four blankEntry (r .entries) h)
+pub gsv-back : (t : Talker) (r : Gsv) (rest : List ℕ) → length (r .entries) ≡ 4 → gsvAt (gsvNumbers t r ++ rest) ≡ r
+gsv-back t r rest h = rw (mark-back (getD (r .entries) 0 blankEntry .elevation .there), mark-back (getD (r .entries) 0 blankEntry .azimuth .there), mark-back (getD (r .entries) 0 blankEntry .signal .there), mark-back (getD (r .entries) 1 blankEntry .elevation .there), mark-back (getD (r .entries) 1 blankEntry .azimuth .there), mark-back (getD (r .entries) 1 blankEntry .signal .there), mark-back (getD (r .entries) 2 blankEntry .elevation .there), mark-back (getD (r .entries) 2 blankEntry .azimuth .there), mark-back (getD (r .entries) 2 blankEntry .signal .there), mark-back (getD (r .entries) 3 blankEntry .elevation .there), mark-back (getD (r .entries) 3 blankEntry .azimuth .there), mark-back (getD (r .entries) 3 blankEntry .signal .there), all-four blankEntry (r .entries) h)
 
-pub rmc-back : (t : Talker) (r : Rmc) → RmcFits r → rmcAt (rmcNumbers t r) ≡ r
-rmc-back t r f = rw (mark-back (r .time .there), mark-back (r .place .there), int-back (r .place .lat) (f .0 .0), int-back (r .place .lon) (f .0 .1), mark-back (r .speed .there), mark-back (r .course .there), mark-back (r .date .there), mark-back (r .variation .there), int-back (r .variation .value) (f .1))
+pub rmc-back : (t : Talker) (r : Rmc) (rest : List ℕ) → RmcFits r → rmcAt (rmcNumbers t r ++ rest) ≡ r
+rmc-back t r rest f = rw (mark-back (r .time .there), mark-back (r .place .there), int-back (r .place .lat) (f .0 .0), int-back (r .place .lon) (f .0 .1), mark-back (r .speed .there), mark-back (r .course .there), mark-back (r .date .there), mark-back (r .variation .there), int-back (r .variation .value) (f .1))
 
-pub vtg-back : (t : Talker) (r : Vtg) → vtgAt (vtgNumbers t r) ≡ r
-vtg-back t r = rw (mark-back (r .course .there), mark-back (r .magnetic .there), mark-back (r .knots .there), mark-back (r .kmh .there))
+pub vtg-back : (t : Talker) (r : Vtg) (rest : List ℕ) → vtgAt (vtgNumbers t r ++ rest) ≡ r
+vtg-back t r rest = rw (mark-back (r .course .there), mark-back (r .magnetic .there), mark-back (r .knots .there), mark-back (r .kmh .there))
 
-pub zda-back : (t : Talker) (r : Zda) → SFits w32 (r .zone .minutes) → zdaAt (zdaNumbers t r) ≡ r
-zda-back t r f = rw (mark-back (r .time .there), mark-back (r .date .there), mark-back (r .zone .there), int-back (r .zone .minutes) f)
+pub zda-back : (t : Talker) (r : Zda) (rest : List ℕ) → SFits w32 (r .zone .minutes) → zdaAt (zdaNumbers t r ++ rest) ≡ r
+zda-back t r rest f = rw (mark-back (r .time .there), mark-back (r .date .there), mark-back (r .zone .there), int-back (r .zone .minutes) f)
 
-pub pirpr-back : (r : PortAsked) → pirprAt (pirprNumbers r) ≡ r
-pirpr-back r = rw (mark-back (r .port .there), mark-back (r .rate .there), mark-back (r .protocol .there), mark-back (r .mask .there))
+pub pirpr-back : (r : PortAsked) (rest : List ℕ) → pirprAt (pirprNumbers r ++ rest) ≡ r
+pirpr-back r rest = rw (mark-back (r .port .there), mark-back (r .rate .there), mark-back (r .protocol .there), mark-back (r .mask .there))
 
-pub pirtr-back : (r : DatumAsked) → SFits w32 (r .zone .minutes) → pirtrAt (pirtrNumbers r) ≡ r
-pirtr-back r f = rw (mark-back (r .datum .there), mark-back (r .zone .there), int-back (r .zone .minutes) f)
+pub pirtr-back : (r : DatumAsked) (rest : List ℕ) → SFits w32 (r .zone .minutes) → pirtrAt (pirtrNumbers r ++ rest) ≡ r
+pirtr-back r rest f = rw (mark-back (r .datum .there), mark-back (r .zone .there), int-back (r .zone .minutes) f)
 
-pub pirsr-back : (r : MasksAsked) → pirsrAt (pirsrNumbers r) ≡ r
-pirsr-back r = rw (mark-back (r .gps .there), mark-back (r .glonass .there))
+pub pirsr-back : (r : MasksAsked) (rest : List ℕ) → pirsrAt (pirsrNumbers r ++ rest) ≡ r
+pirsr-back r rest = rw (mark-back (r .gps .there), mark-back (r .glonass .there))
 
-pub pirpa-back : (r : PortTold) → pirpaAt (pirpaNumbers r) ≡ r
-pirpa-back r = refl
+pub pirpa-back : (r : PortTold) (rest : List ℕ) → pirpaAt (pirpaNumbers r ++ rest) ≡ r
+pirpa-back r rest = refl
 
-pub pirta-back : (r : DatumTold) → SFits w32 (r .zone) → pirtaAt (pirtaNumbers r) ≡ r
-pirta-back r f = rw (int-back (r .zone) f)
+pub pirta-back : (r : DatumTold) (rest : List ℕ) → SFits w32 (r .zone) → pirtaAt (pirtaNumbers r ++ rest) ≡ r
+pirta-back r rest f = rw (int-back (r .zone) f)
 
-pub pirsa-back : (r : MasksTold) → pirsaAt (pirsaNumbers r) ≡ r
-pirsa-back r = refl
+pub pirsa-back : (r : MasksTold) (rest : List ℕ) → pirsaAt (pirsaNumbers r ++ rest) ≡ r
+pirsa-back r rest = refl
 
-pub pirea-back : (r : CodeTold) → pireaAt (pireaNumbers r) ≡ r
-pirea-back r = refl
+pub pirea-back : (r : CodeTold) (rest : List ℕ) → pireaAt (pireaNumbers r ++ rest) ≡ r
+pirea-back r rest = refl

@@ -1,9 +1,9 @@
 -- A record crosses to a host and back unchanged, whatever its kind: the kind's number and the count of its numbers lead back to its kind, the
 -- talker's number to its talker, and the numbers to the record.
-use Prim.Native.Nat.{ℕ}
+use Prim.Native.Nat.{ℕ, _≤_}
 use mathlib.Core.Path.{_≡_, refl, sym, _∙_, ap}
 use mathlib.Core.Bool.{Bool, true, false, _&&_}
-use mathlib.Core.List.{List}
+use mathlib.Core.List.{List, _++_}
 use native.Mathlib.Omega.{arith}
 use lib.Dec.{ltb}
 use lib.ListN.{length, getD}
@@ -77,29 +77,29 @@ talker-known kind T.Ga = sym (ap (λ b. pick b Unknown (knownOf kind T.Ga)) (and
 talker-known kind T.Gq = sym (ap (λ b. pick b Unknown (knownOf kind T.Gq)) (and-no (ltb kind 8)))
 talker-known kind T.Gn = sym (ap (λ b. pick b Unknown (knownOf kind T.Gn)) (and-no (ltb kind 8)))
 
--- Numbers of a talker's sentence, and of the maker's, as many as the kind has.
-from-talker : (kind : ℕ) (t : Talker) (n : List ℕ) → length n ≡ countOf kind → getD n 0 0 ≡ talkerNumber t → addressed (knownOf kind t) n ≡ recordAt kind n
-from-talker kind t n full first = enough kind n (countOf kind) refl (knownOf kind t) (talker-known kind t ∙ ap (addressAt kind) (sym first)) (omega (arith, full))
+-- Numbers of a talker's sentence, and of the maker's, at least as many as the kind has.
+from-talker : (kind : ℕ) (t : Talker) (n : List ℕ) → countOf kind ≤ length n → getD n 0 0 ≡ talkerNumber t → addressed (knownOf kind t) n ≡ recordAt kind n
+from-talker kind t n full first = enough kind n (countOf kind) refl (knownOf kind t) (talker-known kind t ∙ ap (addressAt kind) (sym first)) full
 
-from-maker : (kind : ℕ) (k : Pir) (n : List ℕ) → length n ≡ countOf kind → Maker k ≡ addressAt kind (getD n 0 0) → addressed (Maker k) n ≡ recordAt kind n
-from-maker kind k n full known = enough kind n (countOf kind) refl (Maker k) known (omega (arith, full))
+from-maker : (kind : ℕ) (k : Pir) (n : List ℕ) → countOf kind ≤ length n → Maker k ≡ addressAt kind (getD n 0 0) → addressed (Maker k) n ≡ recordAt kind n
+from-maker kind k n full known = enough kind n (countOf kind) refl (Maker k) known full
 
--- The record at the numbers of a record is the record.
-pub back : (s : Sentence) (gsa : Gsa) (gsv : Gsv) → Held s gsa gsv → recordAt (kindOf s) (numbersOf (beside s gsa gsv)) ≡ beside s gsa gsv
+-- The record at the numbers of a record is the record, whatever numbers come after.
+pub back : (s : Sentence) (gsa : Gsa) (gsv : Gsv) (rest : List ℕ) → Held s gsa gsv → recordAt (kindOf s) (numbersOf (beside s gsa gsv) ++ rest) ≡ beside s gsa gsv
 unfolding knownOf addressAt Held
-back (S.Gga t r) gsa gsv h = sym (from-talker 1 t _ refl refl) ∙ ap (λ x. aloneOf (S.Gga t x)) (gga-back t r h)
-back (S.Gll t r) gsa gsv h = sym (from-talker 2 t _ refl refl) ∙ ap (λ x. aloneOf (S.Gll t x)) (gll-back t r h)
-back (S.Gsa t) gsa gsv h = sym (from-talker 3 t _ refl refl) ∙ ap (λ x. beside (S.Gsa t) x gsv) (gsa-back t gsa h)
-back (S.Gsv t) gsa gsv h = sym (from-talker 4 t _ refl refl) ∙ ap (λ x. beside (S.Gsv t) gsa x) (gsv-back t gsv h)
-back (S.Rmc t r) gsa gsv h = sym (from-talker 5 t _ refl refl) ∙ ap (λ x. aloneOf (S.Rmc t x)) (rmc-back t r h)
-back (S.Vtg t r) gsa gsv h = sym (from-talker 6 t _ refl refl) ∙ ap (λ x. aloneOf (S.Vtg t x)) (vtg-back t r)
-back (S.Zda t r) gsa gsv h = sym (from-talker 7 t _ refl refl) ∙ ap (λ x. aloneOf (S.Zda t x)) (zda-back t r h)
-back (S.Pr r) gsa gsv h = sym (from-maker 8 P.Pr _ refl refl) ∙ ap (λ x. aloneOf (S.Pr x)) (pirpr-back r)
-back (S.Tr r) gsa gsv h = sym (from-maker 9 P.Tr _ refl refl) ∙ ap (λ x. aloneOf (S.Tr x)) (pirtr-back r h)
-back (S.Sr r) gsa gsv h = sym (from-maker 10 P.Sr _ refl refl) ∙ ap (λ x. aloneOf (S.Sr x)) (pirsr-back r)
-back S.Er gsa gsv h = sym (from-maker 11 P.Er _ refl refl)
-back (S.Pa r) gsa gsv h = sym (from-maker 12 P.Pa _ refl refl)
-back (S.Ta r) gsa gsv h = sym (from-maker 13 P.Ta _ refl refl) ∙ ap (λ x. aloneOf (S.Ta x)) (pirta-back r h)
-back (S.Sa r) gsa gsv h = sym (from-maker 14 P.Sa _ refl refl)
-back (S.Ea r) gsa gsv h = sym (from-maker 15 P.Ea _ refl refl)
-back (S.Refused n f) gsa gsv h = absurd h
+back (S.Gga t r) gsa gsv rest h = sym (from-talker 1 t _ (omega arith) refl) ∙ ap (λ x. aloneOf (S.Gga t x)) (gga-back t r rest h)
+back (S.Gll t r) gsa gsv rest h = sym (from-talker 2 t _ (omega arith) refl) ∙ ap (λ x. aloneOf (S.Gll t x)) (gll-back t r rest h)
+back (S.Gsa t) gsa gsv rest h = sym (from-talker 3 t _ (omega arith) refl) ∙ ap (λ x. beside (S.Gsa t) x gsv) (gsa-back t gsa rest h)
+back (S.Gsv t) gsa gsv rest h = sym (from-talker 4 t _ (omega arith) refl) ∙ ap (λ x. beside (S.Gsv t) gsa x) (gsv-back t gsv rest h)
+back (S.Rmc t r) gsa gsv rest h = sym (from-talker 5 t _ (omega arith) refl) ∙ ap (λ x. aloneOf (S.Rmc t x)) (rmc-back t r rest h)
+back (S.Vtg t r) gsa gsv rest h = sym (from-talker 6 t _ (omega arith) refl) ∙ ap (λ x. aloneOf (S.Vtg t x)) (vtg-back t r rest)
+back (S.Zda t r) gsa gsv rest h = sym (from-talker 7 t _ (omega arith) refl) ∙ ap (λ x. aloneOf (S.Zda t x)) (zda-back t r rest h)
+back (S.Pr r) gsa gsv rest h = sym (from-maker 8 P.Pr _ (omega arith) refl) ∙ ap (λ x. aloneOf (S.Pr x)) (pirpr-back r rest)
+back (S.Tr r) gsa gsv rest h = sym (from-maker 9 P.Tr _ (omega arith) refl) ∙ ap (λ x. aloneOf (S.Tr x)) (pirtr-back r rest h)
+back (S.Sr r) gsa gsv rest h = sym (from-maker 10 P.Sr _ (omega arith) refl) ∙ ap (λ x. aloneOf (S.Sr x)) (pirsr-back r rest)
+back S.Er gsa gsv rest h = sym (from-maker 11 P.Er _ (omega arith) refl)
+back (S.Pa r) gsa gsv rest h = sym (from-maker 12 P.Pa _ (omega arith) refl)
+back (S.Ta r) gsa gsv rest h = sym (from-maker 13 P.Ta _ (omega arith) refl) ∙ ap (λ x. aloneOf (S.Ta x)) (pirta-back r rest h)
+back (S.Sa r) gsa gsv rest h = sym (from-maker 14 P.Sa _ (omega arith) refl)
+back (S.Ea r) gsa gsv rest h = sym (from-maker 15 P.Ea _ (omega arith) refl)
+back (S.Refused n f) gsa gsv rest h = absurd h
