@@ -51,6 +51,10 @@ use Rattle.receiver.specs.declared.Settings.{Settings}
 use Rattle.receiver.specs.Settings.{settingsGood}
 use Rattle.receiver.specs.Command.{Outcome, namedPort, portTold, sentenceOutcome, outcomeOf, settingsAfter, Does}
 use Rattle.records.specs.declared.PortAsked.{PortAsked}
+use Rattle.records.specs.declared.Reading.{Reading}
+use Rattle.fromnumbers.specs.Back.{recordAt}
+use Rattle.hostrecords.specs.ToHost.{toldFor, laidFor}
+use Rattle.tripsnumbers.proofs.Host as Host
 use Rattle.claims.proofs.Commands as Commands
 use Rattle.claims.proofs.Replies as Replies
 use Rattle.claims.proofs.Rows as Rows
@@ -206,6 +210,13 @@ port-reply = Replies.port-reply
 -- A step that replies and alters nothing is not the step.
 pub step-alters : ((s : Settings) (p : ℕ) (l : List ℕ) (room : ℕ) → settingsAfter s (outcomeOf s p l) room ≡ s) → ⊥
 step-alters = Rows.step-alters
+
+-- A record that crossed to a host as numbers, handed back, is what the line came to; a refusal leaves the host's numbers.
+pub host-back : (l numbers : List ℕ) → (toldFor (readLine l) numbers .kind ≡ 0 → ⊥) → recordAt (toldFor (readLine l) numbers .kind) (laidFor (readLine l) numbers) ≡ readLine l
+host-back = Host.host-back
+
+pub host-refusal-leaves : (r : Reading) (numbers : List ℕ) → (toldFor r numbers .no ≡ 0 → ⊥) → laidFor r numbers ≡ numbers
+host-refusal-leaves = Host.refusal-leaves
 
 -- The worked rows hold of the definitions.
 pub worked-rows : AllHold rows

@@ -296,5 +296,5 @@ pub refusal-of : (sentence : Sentence) → One (refusalOf sentence)
 refusal-of sentence = one
 
 -- host
-pub host-read : (line : List ℕ) → One (refusalOf (readLine line .sentence) .no) × One (refusalOf (readLine line .sentence) .field)
-host-read line = (one, one)
+pub host-refusal : (line : List ℕ) → One (refusalOf (readLine line .sentence) .no) × One (refusalOf (readLine line .sentence) .field)
+host-refusal line = (one, one)

@@ -8,8 +8,11 @@ pub mod Writing
 pub mod Lengths
 pub mod DeterminedWriting
 pub mod DeterminedText
+pub mod Digits
+pub mod Listing
 pub mod Skies
 pub mod Commands
 pub mod Replies
 pub mod Faultless
 pub mod DeterminedReceiver
+pub mod DeterminedHost

@@ -6,7 +6,7 @@ use mathlib.Core.Bool.{true, false}
 use native.Mathlib.Omega.{arith}
 use borrow.Author.Tests.{lt-ltb, le-ltb}
 use lib.Dec.{ltb}
-use lib.ListN.{length, getD, drop, length-append, length-drop}
+use lib.ListN.{length, getD, drop, length-append}
 use Rattle.address.specs.declared.Talker.{Talker}
 use Rattle.address.specs.declared.Talker.the-variants as T
 use Rattle.sealing.specs.declared.Written.{Written}
@@ -55,7 +55,7 @@ known T.Gn = omega arith
 
 module _ (t : Talker) (r : Table) (full : length (r .entries) ≡ 36) (numbers : List ℕ) (h : 254 ≤ length numbers) where
   long : length (skyNumbers t r) ≡ 254
-  long = sky-length t r full numbers
+  long = sky-length t r full
 
   stands : laid (skyNumbers t r) numbers ≡ skyNumbers t r ++ drop (length (skyNumbers t r)) numbers
   stands = laid-is (skyNumbers t r) numbers (omega (arith, long, h))

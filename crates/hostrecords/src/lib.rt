@@ -7,7 +7,7 @@ use reading::Refusal;
 use sealing::Written;
 ghost use mathlib.Core.Path.{_≡_};
 ghost use Rattle.reading.specs.Lines.{readLine};
-ghost use Rattle.hostrecords.specs.ToHost.{toldOf, toldFor, laidFor};
+ghost use Rattle.hostrecords.specs.ToHost.{told, toldOf, toldFor, laidFor};
 ghost use Rattle.hostrecords.specs.FromHost.{writtenAs, leftAs};
 
 // What a host is told of a line beside its numbers: 0 and its kind, or a refusal with its field.
@@ -17,29 +17,23 @@ pub struct Told {
     pub field: usize,
 }
 
+fn tell(no: u8, kind: u32, field: usize) -> Told
+    ensures { λ r. ⌜ r ≡ told no kind field ⌝ }
+{
+    Told { no, kind, field }
+}
+
 // 0 with the kind where there was room for its numbers, 8 where there was none; before both, a refusal.
 fn told_of(refusal: Refusal, room: bool, kind: u32) -> Told
     ensures { λ r. ⌜ r ≡ toldOf refusal room kind ⌝ }
 {
     if refusal.no != 0 {
-        return Told {
-            no: refusal.no,
-            kind: 0,
-            field: refusal.field,
-        };
+        return tell(refusal.no, 0, refusal.field);
     }
     if !room {
-        return Told {
-            no: 8,
-            kind: 0,
-            field: 0,
-        };
+        return tell(8, 0, 0);
     }
-    Told {
-        no: 0,
-        kind,
-        field: 0,
-    }
+    tell(0, kind, 0)
 }
 
 // Reads `line` and stores the numbers of its record at the start of `numbers`. Refused: as the line is, or 8

@@ -2,6 +2,9 @@
 use libc::STDERR_FILENO;
 use libc::STDIN_FILENO;
 use libc::STDOUT_FILENO;
+ghost use Rattle.put.specs.Wrote.{held, Puts};
+ghost use Rattle.reading.specs.Lines.{readLine};
+ghost use Rattle.rows.specs.Row.{rowText};
 
 // What listing some bytes leaves: where the bytes to keep begin, the rows so far, and whether all
 // of them could be written.
@@ -20,7 +23,9 @@ fn is_full(out: &[u8], place: usize) -> bool {
 }
 
 // Puts the row of one line.
-fn list_line(out: &mut [u8], place: usize, number: u64, line: &[u8], dumps: bool) -> usize {
+fn list_line(out: &mut [u8], place: usize, number: u64, line: &[u8], dumps: bool) -> usize
+    ensures { λ r. ⌜ Puts (held place (now (out .entry))) (rowText number (now (line .entry)) (readLine (now (line .entry))) dumps) (held r (now (out .exit))) ⌝ }
+{
     let reading = reading::read_line(line);
     rows::put_row(out, place, number, line, reading, dumps)
 }

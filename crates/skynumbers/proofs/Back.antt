@@ -54,4 +54,4 @@ module _ (t : Talker) (r : Table) (full : length (r .entries) ≡ 36) where
       (talker-back t, rw es)
 
   pub laid-back : (out : List ℕ) → 254 ≤ length out → (talkerOf (getD (laid (skyNumbers t r) out) 0 0) ≡ t) × (tableAt (laid (skyNumbers t r) out) ≡ r)
-  laid-back out h = rw (laid-is (skyNumbers t r) out (omega (arith, sky-length t r full out, h))) (back (drop (length (skyNumbers t r)) out))
+  laid-back out h = rw (laid-is (skyNumbers t r) out (omega (arith, sky-length t r full, h))) (back (drop (length (skyNumbers t r)) out))

@@ -105,15 +105,15 @@ module _ (es : List Entry) (full : length es ≡ 36) (first : List ℕ) where
         ∙ ap (λ (k : ℕ). (take 2 first ++ placeNumbers (take k es)) ++ drop (2 + 7 * k) first) e
         ∙ ap (λ (l : List Entry). (take 2 first ++ placeNumbers l) ++ drop 254 first) (take-all 36 es (omega (arith, full)))
 
+pub sky-length : (t : Talker) (r : Table) → length (r .entries) ≡ 36 → length (skyNumbers t r) ≡ 254
+unfolding skyNumbers
+sky-length t r full = omega (arith, numbers-length (r .entries), full)
+
 -- A table's numbers, talker and count stored first.
 module _ (t : Talker) (r : Table) (full : length (r .entries) ≡ 36) (out : List ℕ) where
-  pub sky-length : length (skyNumbers t r) ≡ 254
-  unfolding skyNumbers
-  sky-length = omega (arith, numbers-length (r .entries), full)
-
   pub laid-short : length out < 254 → (false ≡ leb 254 (length out)) × (out ≡ laid (skyNumbers t r) out)
   unfolding laid
-  laid-short h = let e = lt-leb 254 (length out) h in (sym e, rw (sky-length, e))
+  laid-short h = let e = lt-leb 254 (length out) h in (sym e, rw (sky-length t r full, e))
 
   -- The first two numbers stored.
   abbrev headed : ℕ → List ℕ
@@ -141,5 +141,6 @@ module _ (t : Talker) (r : Table) (full : length (r .entries) ≡ 36) (out : Lis
       → (true ≡ leb 254 (length out)) × (left ≡ laid (skyNumbers t r) out)
   laid-whole h {n} q e =
       let front : (take 2 (headed n) ++ placeNumbers (r .entries)) ++ drop 254 (headed n) ≡ skyNumbers t r ++ drop 254 out = rw (head-is n h, tail-is n, ← start-is q) in
-      let whole = laid-is (skyNumbers t r) out (omega (arith, sky-length, h)) ∙ ap (λ (k : ℕ). skyNumbers t r ++ drop k out) sky-length in
+      let long = sky-length t r full in
+      let whole = laid-is (skyNumbers t r) out (omega (arith, long, h)) ∙ ap (λ (k : ℕ). skyNumbers t r ++ drop k out) long in
       (sym (le-leb 254 (length out) h), e ∙ front ∙ sym whole)

@@ -2,7 +2,6 @@
 // `at` on, as far as there is room, leaves all other bytes, and answers the next place.
 pub mod value;
 
-pub use put::put_bytes;
 ghost use mathlib.Core.Path.{_≡_};
 ghost use Prim.Native.Nat.{_+_, _%_};
 ghost use Rattle.put.specs.Wrote.{held, Puts};

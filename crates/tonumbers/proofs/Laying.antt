@@ -32,8 +32,8 @@ laid-none out =
 abbrev gsaRow : ℕ → Gsa → List ℕ → List ℕ → List ℕ
 gsaRow x r a b = x ∷ r .selection ∷ r .fix ∷ getD a 0 0 ∷ getD a 1 0 ∷ getD a 2 0 ∷ getD a 3 0 ∷ getD a 4 0 ∷ getD a 5 0 ∷ getD a 6 0 ∷ getD a 7 0 ∷ getD a 8 0 ∷ getD a 9 0 ∷ getD a 10 0 ∷ getD a 11 0 ∷ getD b 0 0 ∷ getD b 1 0 ∷ getD b 2 0 ∷ getD b 3 0 ∷ getD b 4 0 ∷ getD b 5 0 ∷ getD b 6 0 ∷ getD b 7 0 ∷ getD b 8 0 ∷ getD b 9 0 ∷ getD b 10 0 ∷ getD b 11 0 ∷ getD b 12 0 ∷ getD b 13 0 ∷ getD b 14 0 ∷ getD b 15 0 ∷ getD b 16 0 ∷ getD b 17 0 ∷ []
 
-pub gsa-row-is : (t : Talker) (r : Gsa) (x : ℕ) (a b : List ℕ) → x ≡ talkerNumber t → a ≡ sixFrom r 0 1 2 3 4 5 [] → b ≡ lastSix r → gsaRow x r a b ≡ gsaNumbers t r
-gsa-row-is t r x a b ex ea eb = ap (λ y. gsaRow y r a b) ex ∙ (ap (λ l. gsaRow (talkerNumber t) r l b) ea ∙ ap (λ l. gsaRow (talkerNumber t) r (sixFrom r 0 1 2 3 4 5 []) l) eb)
+pub gsa-row-is : (t : Talker) (r : Gsa) (x : ℕ) (a b : List ℕ) → x ≡ talkerNumber t → a ≡ sixFrom r 0 [] → b ≡ lastSix r → gsaRow x r a b ≡ gsaNumbers t r
+gsa-row-is t r x a b ex ea eb = ap (λ y. gsaRow y r a b) ex ∙ (ap (λ l. gsaRow (talkerNumber t) r l b) ea ∙ ap (λ l. gsaRow (talkerNumber t) r (sixFrom r 0 []) l) eb)
 
 abbrev gsvRow : ℕ → Gsv → List ℕ → List ℕ → List ℕ
 gsvRow x r a b = x ∷ r .lines ∷ r .line ∷ r .satellites ∷ r .count ∷ getD a 0 0 ∷ getD a 1 0 ∷ getD a 2 0 ∷ getD a 3 0 ∷ getD a 4 0 ∷ getD a 5 0 ∷ getD a 6 0 ∷ getD a 7 0 ∷ getD a 8 0 ∷ getD a 9 0 ∷ getD a 10 0 ∷ getD a 11 0 ∷ getD a 12 0 ∷ getD a 13 0 ∷ getD b 0 0 ∷ getD b 1 0 ∷ getD b 2 0 ∷ getD b 3 0 ∷ getD b 4 0 ∷ getD b 5 0 ∷ getD b 6 0 ∷ getD b 7 0 ∷ getD b 8 0 ∷ getD b 9 0 ∷ getD b 10 0 ∷ getD b 11 0 ∷ getD b 12 0 ∷ getD b 13 0 ∷ []

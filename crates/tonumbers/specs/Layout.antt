@@ -1,8 +1,8 @@
 -- Records as numbers, as docs/LAYOUT.md lays them out: a value that may be missing is a mark and the value, a position a mark, latitude and
 -- longitude, a date a mark, day, month and year. A signed value is its 32 bits. A talker's sentence has the talker's number first.
-use Prim.Native.Nat.{ℕ}
+use Prim.Native.Nat.{ℕ, _+_}
 use mathlib.Core.Bool.{Bool}
-use mathlib.Core.List.{List, [], _∷_, _++_}
+use mathlib.Core.List.{List, [], _∷_}
 use lib.IntN.{ℤ}
 use lib.ListN.{getD}
 use mir.Syntax.{w32}
@@ -64,18 +64,19 @@ gllNumbers t r = talkerNumber t ∷ place (r .place) (maybe (r .time .there) (r 
 abbrev pub satellite : Gsa → ℕ → List ℕ → List ℕ
 satellite r k rest = maybe (getD (r .satellites) k noMaybe .there) (getD (r .satellites) k noMaybe .value) rest
 
-abbrev pub sixFrom : Gsa → ℕ → ℕ → ℕ → ℕ → ℕ → ℕ → List ℕ → List ℕ
-sixFrom r a b c d e f rest = satellite r a (satellite r b (satellite r c (satellite r d (satellite r e (satellite r f rest)))))
+-- Six of them, from place k on; and the last six, with PDOP, HDOP and VDOP.
+abbrev pub sixFrom : Gsa → ℕ → List ℕ → List ℕ
+sixFrom r k rest = satellite r k (satellite r (k + 1) (satellite r (k + 2) (satellite r (k + 3) (satellite r (k + 4) (satellite r (k + 5) rest)))))
 
 abbrev pub lastSix : Gsa → List ℕ
 lastSix r =
-    sixFrom r 6 7 8 9 10 11
+    sixFrom r 6
     (maybe (r .pdop .there) (r .pdop .value)
     (maybe (r .hdop .there) (r .hdop .value)
     (maybe (r .vdop .there) (r .vdop .value) [])))
 
 abbrev pub gsaNumbers : Talker → Gsa → List ℕ
-gsaNumbers t r = talkerNumber t ∷ r .selection ∷ r .fix ∷ sixFrom r 0 1 2 3 4 5 (lastSix r)
+gsaNumbers t r = talkerNumber t ∷ r .selection ∷ r .fix ∷ sixFrom r 0 (lastSix r)
 
 -- A satellite of a GSV.
 abbrev pub entry : Entry → List ℕ → List ℕ

@@ -12,7 +12,7 @@ ghost use Rattle.tonumbers.specs.Layout.{sixFrom, lastSix, gsaNumbers, e
 
 // The numbers of the first six satellites of a GSA.
 fn first_six(r: Gsa) -> [u32; 12]
-    ensures { λ v. ⌜ v ≡ sixFrom r 0 1 2 3 4 5 [] ⌝ }
+    ensures { λ v. ⌜ v ≡ sixFrom r 0 [] ⌝ }
 {
     let m0 = slots::mark(r.satellites[0].there);
     let m1 = slots::mark(r.satellites[1].there);

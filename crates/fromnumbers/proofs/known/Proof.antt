@@ -1,7 +1,6 @@
 -- `known` meets its contract: the kind is one of the fifteen, or none of them.
 use Rattle.fromnumbers.proofs.Numbered.{known-none}
 use Rattle.fromnumbers.specs.Back.{knownOf}
-use borrow.Author.Needs.{needs}
 use Rattle.fromnumbers.proofs.known.Statement.{statement}
 use Rattle.fromnumbers.proofs.known.Tie as tie
 

@@ -1,4 +1,5 @@
 -- `told_of` meets its contract, by the cases of its tests.
+use mathlib.Core.Path.{_∙_}
 use borrow.Author.Tests.{eq-eqb, ne-eqb, not-true, not-false}
 use Rattle.hostrecords.specs.ToHost.{toldOf}
 use borrow.Author.Needs.{needs}
@@ -7,20 +8,15 @@ use Rattle.hostrecords.proofs.told_of.Tie as tie
 
 returns : tie.Need-returns
 unfolding toldOf
-returns c = rw (ne-eqb _ _ (c .if1 .taken))
+returns c = c .tell .ensures ∙ rw (ne-eqb _ _ (c .before .if1 .taken))
 
 returns-2 : tie.Need-returns-2
 unfolding toldOf
-returns-2 c = rw (eq-eqb _ _ (c .before .if1 .left), not-true (c .before .before .before .args .room) (c .if2 .taken))
+returns-2 c = c .tell2 .ensures ∙ rw (eq-eqb _ _ (c .before .before .if1 .left), not-true (c .before .before .before .before .args .room) (c .before .if2 .taken))
 
 returns-3 : tie.Need-returns-3
 unfolding toldOf
-returns-3 c = rw (eq-eqb _ _ (c .before .if1 .left), not-false (c .before .before .before .args .room) (c .if2 .left))
+returns-3 c = c .tell3 .ensures ∙ rw (eq-eqb _ _ (c .before .before .if1 .left), not-false (c .before .before .before .before .args .room) (c .before .if2 .left))
 
 pub told-of-spec : {M : Type 1} → statement M
-told-of-spec =
-    tie.close
-    (tie.spec
-    returns
-    returns-2
-    returns-3)
+told-of-spec = tie.close (tie.spec (λ c κs. search needs) returns (λ c κs. search needs) returns-2 (λ c κs. search needs) returns-3)

@@ -1,5 +1,5 @@
 -- The places before place i are stored behind talker and count; the laws stand in Laying.
-use Prim.Native.Nat.{_-_}
+use Prim.Native.Nat.{_+_, _-_, _*_, _≤_}
 use mathlib.Core.Path.{_≡_, _∙_}
 use native.Mathlib.Omega.{arith}
 use borrow.Author.Needs.{needs}
@@ -20,9 +20,6 @@ returns c =
     let full : length (c .before .before .args .t3 .entries) ≡ 36 = search (needs, length-mapped) in
     laid-short (c .before .before .args .t) (c .before .before .args .t3) full (c .before .before .args .out .now) (c .if1 .taken)
 
-slice-write-out : tie.Need-slice-write-out Inv-loop μ-loop
-slice-write-out c = omega arith
-
 cast-out : tie.Need-cast-out Inv-loop μ-loop
 cast-out c = omega (arith, c .before .before .before .pre)
 
@@ -35,22 +32,8 @@ loop-holds c =
     let long = headed-long (c .before .before .before .args .t) (c .before .before .before .args .t3) full (c .before .before .before .args .out .now) (c .talker-number .result) in
     stored-none (c .before .before .before .args .t3 .entries) full _ (omega (arith, long, c .before .if1 .left))
 
-sub-lay-entry : tie.Need-sub-lay-entry Inv-loop μ-loop
-sub-lay-entry c =
-    let full : length (c .before .before .before .before .before .args .t3 .entries) ≡ 36 = search (needs, length-mapped) in
-    let long = stored-long (c .before .before .before .before .before .args .t3 .entries) full _ (c .before .loop .inv) in
-    let room = c .before .loop .inv .room in
-    omega (arith, long, room, c .loop-test .taken)
-
-part-lay-entry-start : tie.Need-part-lay-entry-start Inv-loop μ-loop
-part-lay-entry-start c =
-    let full : length (c .before .before .before .before .before .args .t3 .entries) ≡ 36 = search (needs, length-mapped) in
-    let long = stored-long (c .before .before .before .before .before .args .t3 .entries) full _ (c .before .loop .inv) in
-    let room = c .before .loop .inv .room in
-    omega (arith, long, room, c .loop-test .taken)
-
-part-lay-entry-end : tie.Need-part-lay-entry-end Inv-loop μ-loop
-part-lay-entry-end c =
+inside : (c : tie.In-loop Inv-loop μ-loop) → 2 + 7 * c .before .loop .i ≤ length (c .before .loop .out)
+inside c =
     let full : length (c .before .before .before .before .before .args .t3 .entries) ≡ 36 = search (needs, length-mapped) in
     let long = stored-long (c .before .before .before .before .before .args .t3 .entries) full _ (c .before .loop .inv) in
     let room = c .before .loop .inv .room in
@@ -79,16 +62,16 @@ lay-spec =
     μ-loop
     returns
     (λ c κs. search needs)
-    slice-write-out
+    (λ c. omega arith)
     cast-out
     slice-write-out-2
     loop-holds
     (λ c. omega arith)
     (λ c. omega arith)
     (λ c. omega arith)
-    sub-lay-entry
-    part-lay-entry-start
-    part-lay-entry-end
+    (λ c. inside c)
+    (λ c. inside c)
+    (λ c. search needs)
     (λ c. omega arith)
     (λ c. omega arith)
     (λ c κs. search needs)

@@ -1,0 +1,247 @@
+-- The numbers that cross to a host, and the functions that it calls: any two results that a contract permits are equal, in the answer, in each
+-- number that is set and in each lent slice.
+use Prim.Native.Nat.{ℕ}
+use mathlib.Core.List.{List}
+use mathlib.Core.Bool.{Bool}
+use lib.Dec.{leb}
+use lib.ListN.{length, getD}
+use lib.IntN.{ℤ}
+use mir.Syntax.{w32}
+use mir.Val.{ofZ, toZ}
+use Rattle.slots.specs.Slots.{markOf, isThere, laid, talkerNumber, talkerOf}
+use Rattle.address.specs.declared.Talker.{Talker}
+use Rattle.records.specs.declared.Gga.{Gga}
+use Rattle.tonumbers.specs.Layout.{ggaNumbers, gllNumbers, gsaNumbers, gsvNumbers, rmcNumbers, vtgNumbers, zdaNumbers, pirprNumbers, pirtrNumbers, pirsrNumbers, pirpaNumbers, pirtaNumbers, pirsaNumbers, pireaNumbers, numbersOf, kindOf}
+use Rattle.records.specs.declared.Gll.{Gll}
+use Rattle.records.specs.declared.Gsa.{Gsa}
+use Rattle.records.specs.declared.Gsv.{Gsv}
+use Rattle.records.specs.declared.Rmc.{Rmc}
+use Rattle.records.specs.declared.Vtg.{Vtg}
+use Rattle.records.specs.declared.Zda.{Zda}
+use Rattle.records.specs.declared.PortAsked.{PortAsked}
+use Rattle.records.specs.declared.DatumAsked.{DatumAsked}
+use Rattle.records.specs.declared.MasksAsked.{MasksAsked}
+use Rattle.records.specs.declared.PortTold.{PortTold}
+use Rattle.records.specs.declared.DatumTold.{DatumTold}
+use Rattle.records.specs.declared.MasksTold.{MasksTold}
+use Rattle.records.specs.declared.CodeTold.{CodeTold}
+use Rattle.records.specs.declared.Reading.{Reading}
+use Rattle.records.specs.declared.Sentence.{Sentence}
+use Rattle.fromnumbers.specs.Back.{ggaAt, gllAt, gsaAt, gsvAt, rmcAt, vtgAt, zdaAt, pirprAt, pirtrAt, pirsrAt, pirpaAt, pirtaAt, pirsaAt, pireaAt, recordAt}
+use Rattle.fromnumbers.specs.Values.{maybeAt, numberAt, knotsAt, kmhAt, signedAt, zoneAt, placeAt, dateAt, entryAt}
+use Rattle.sky.specs.declared.Table.{Table}
+use Rattle.skynumbers.specs.Numbers.{skyNumbers, tableAt}
+use Rattle.receiver.specs.declared.Settings.{Settings}
+use Rattle.settingnumbers.specs.Numbers.{settingNumbers, settingsAt}
+use Rattle.receiver.specs.Settings.{atStart}
+use Rattle.reading.specs.Lines.{readLine}
+use Rattle.hostrecords.specs.ToHost.{toldFor, laidFor}
+use Rattle.hostrecords.specs.FromHost.{writtenAs, leftAs}
+use Rattle.sky.specs.Group.{groupOf}
+use Rattle.host.specs.Group.{handed, groupPut}
+use Rattle.host.specs.Command.{startNo, stepped, countsAt}
+use Rattle.claims.proofs.Determined.{One, one}
+
+-- Values laid at the start of a lent slice: whether there was room, and the slice after it.
+abbrev OneLaying : List ℕ → List ℕ → Type 0
+OneLaying values out = One (leb (length values) (length out)) × One (laid values out)
+
+laying : (values out : List ℕ) → OneLaying values out
+laying values out = (one, one)
+
+-- slots
+pub slot-at : (numbers : List ℕ) (i : ℕ) → One (getD numbers i 0)
+slot-at numbers i = one
+
+pub slots-lay : (values out : List ℕ) → OneLaying values out
+slots-lay = laying
+
+pub slot-mark : (there : Bool) → One (markOf there)
+slot-mark there = one
+
+pub slot-marked : (n : ℕ) → One (isThere n)
+slot-marked n = one
+
+pub slot-bits : (z : ℤ) → One (ofZ w32 z)
+slot-bits z = one
+
+pub slot-signed : (n : ℕ) → One (toZ w32 n)
+slot-signed n = one
+
+pub slot-talker-number : (t : Talker) → One (talkerNumber t)
+slot-talker-number t = one
+
+pub slot-talker-of : (n : ℕ) → One (talkerOf n)
+slot-talker-of n = one
+
+-- tonumbers
+pub lay-gga : (t : Talker) (r : Gga) (out : List ℕ) → OneLaying (ggaNumbers t r) out
+lay-gga t r = laying (ggaNumbers t r)
+
+pub lay-gll : (t : Talker) (r : Gll) (out : List ℕ) → OneLaying (gllNumbers t r) out
+lay-gll t r = laying (gllNumbers t r)
+
+pub lay-gsa : (t : Talker) (r : Gsa) (out : List ℕ) → OneLaying (gsaNumbers t r) out
+lay-gsa t r = laying (gsaNumbers t r)
+
+pub lay-gsv : (t : Talker) (r : Gsv) (out : List ℕ) → OneLaying (gsvNumbers t r) out
+lay-gsv t r = laying (gsvNumbers t r)
+
+pub lay-rmc : (t : Talker) (r : Rmc) (out : List ℕ) → OneLaying (rmcNumbers t r) out
+lay-rmc t r = laying (rmcNumbers t r)
+
+pub lay-vtg : (t : Talker) (r : Vtg) (out : List ℕ) → OneLaying (vtgNumbers t r) out
+lay-vtg t r = laying (vtgNumbers t r)
+
+pub lay-zda : (t : Talker) (r : Zda) (out : List ℕ) → OneLaying (zdaNumbers t r) out
+lay-zda t r = laying (zdaNumbers t r)
+
+pub lay-pirpr : (r : PortAsked) (out : List ℕ) → OneLaying (pirprNumbers r) out
+lay-pirpr r = laying (pirprNumbers r)
+
+pub lay-pirtr : (r : DatumAsked) (out : List ℕ) → OneLaying (pirtrNumbers r) out
+lay-pirtr r = laying (pirtrNumbers r)
+
+pub lay-pirsr : (r : MasksAsked) (out : List ℕ) → OneLaying (pirsrNumbers r) out
+lay-pirsr r = laying (pirsrNumbers r)
+
+pub lay-pirpa : (r : PortTold) (out : List ℕ) → OneLaying (pirpaNumbers r) out
+lay-pirpa r = laying (pirpaNumbers r)
+
+pub lay-pirta : (r : DatumTold) (out : List ℕ) → OneLaying (pirtaNumbers r) out
+lay-pirta r = laying (pirtaNumbers r)
+
+pub lay-pirsa : (r : MasksTold) (out : List ℕ) → OneLaying (pirsaNumbers r) out
+lay-pirsa r = laying (pirsaNumbers r)
+
+pub lay-pirea : (r : CodeTold) (out : List ℕ) → OneLaying (pireaNumbers r) out
+lay-pirea r = laying (pireaNumbers r)
+
+pub lay-record : (r : Reading) (out : List ℕ) → OneLaying (numbersOf r) out
+lay-record r = laying (numbersOf r)
+
+pub kind-of : (s : Sentence) → One (kindOf s)
+kind-of s = one
+
+-- fromnumbers
+pub gga-at : (n : List ℕ) → One (ggaAt n)
+gga-at n = one
+
+pub gll-at : (n : List ℕ) → One (gllAt n)
+gll-at n = one
+
+pub gsa-at : (n : List ℕ) → One (gsaAt n)
+gsa-at n = one
+
+pub gsv-at : (n : List ℕ) → One (gsvAt n)
+gsv-at n = one
+
+pub rmc-at : (n : List ℕ) → One (rmcAt n)
+rmc-at n = one
+
+pub vtg-at : (n : List ℕ) → One (vtgAt n)
+vtg-at n = one
+
+pub zda-at : (n : List ℕ) → One (zdaAt n)
+zda-at n = one
+
+pub pirpr-at : (n : List ℕ) → One (pirprAt n)
+pirpr-at n = one
+
+pub pirtr-at : (n : List ℕ) → One (pirtrAt n)
+pirtr-at n = one
+
+pub pirsr-at : (n : List ℕ) → One (pirsrAt n)
+pirsr-at n = one
+
+pub pirpa-at : (n : List ℕ) → One (pirpaAt n)
+pirpa-at n = one
+
+pub pirta-at : (n : List ℕ) → One (pirtaAt n)
+pirta-at n = one
+
+pub pirsa-at : (n : List ℕ) → One (pirsaAt n)
+pirsa-at n = one
+
+pub pirea-at : (n : List ℕ) → One (pireaAt n)
+pirea-at n = one
+
+pub maybe-at : (n : List ℕ) (i : ℕ) → One (maybeAt n i)
+maybe-at n i = one
+
+pub number-at : (n : List ℕ) (i : ℕ) → One (numberAt n i)
+number-at n i = one
+
+pub knots-at : (n : List ℕ) (i : ℕ) → One (knotsAt n i)
+knots-at n i = one
+
+pub kmh-at : (n : List ℕ) (i : ℕ) → One (kmhAt n i)
+kmh-at n i = one
+
+pub signed-at : (n : List ℕ) (i : ℕ) → One (signedAt n i)
+signed-at n i = one
+
+pub zone-at : (n : List ℕ) (i : ℕ) → One (zoneAt n i)
+zone-at n i = one
+
+pub place-at : (n : List ℕ) (i : ℕ) → One (placeAt n i)
+place-at n i = one
+
+pub date-at : (n : List ℕ) (i : ℕ) → One (dateAt n i)
+date-at n i = one
+
+pub entry-at : (n : List ℕ) (number : ℕ) (elevation : ℕ) (azimuth : ℕ) (signal : ℕ) → One (entryAt n number elevation azimuth signal)
+entry-at n number elevation azimuth signal = one
+
+pub record-at : (kind : ℕ) (n : List ℕ) → One (recordAt kind n)
+record-at kind n = one
+
+-- skynumbers, settingnumbers
+pub lay-sky : (t : Talker) (r : Table) (out : List ℕ) → One (leb 254 (length out)) × One (laid (skyNumbers t r) out)
+lay-sky t r out = (one, one)
+
+pub table-at : (n : List ℕ) → One (tableAt n)
+table-at n = one
+
+pub lay-settings : (s : Settings) (out : List ℕ) → One (leb 11 (length out)) × One (laid (settingNumbers s) out)
+lay-settings s out = (one, one)
+
+pub settings-at : (n : List ℕ) → One (settingsAt n)
+settings-at n = one
+
+-- hostrecords, host: each exported function hands on the answer of one definition, its struct taken apart into lent numbers.
+pub host-record : (line : List ℕ) (numbers : List ℕ)
+    → One (toldFor (readLine line) numbers) × One (laidFor (readLine line) numbers)
+host-record line numbers = (one, one)
+
+pub host-read-numbers : (line : List ℕ) (numbers : List ℕ)
+    → One (toldFor (readLine line) numbers .no) × One (toldFor (readLine line) numbers .kind) × One (toldFor (readLine line) numbers .field) × One (laidFor (readLine line) numbers)
+host-read-numbers line numbers = (one, one, one, one)
+
+pub host-line : (kind : ℕ) (numbers : List ℕ) (out : List ℕ)
+    → One (writtenAs kind numbers out) × One (leftAs kind numbers out)
+host-line kind numbers out = (one, one)
+
+pub host-write : (kind : ℕ) (numbers : List ℕ) (out : List ℕ)
+    → One (writtenAs kind numbers out .no) × One (writtenAs kind numbers out .length) × One (writtenAs kind numbers out .line) × One (writtenAs kind numbers out .field) × One (leftAs kind numbers out)
+host-write kind numbers out = (one, one, one, one, one)
+
+pub host-read-group : (s : List ℕ) (numbers : List ℕ)
+    → One (handed (groupOf s) numbers .no) × One (handed (groupOf s) numbers .line) × One (handed (groupOf s) numbers .field) × One (handed (groupOf s) numbers .numbers)
+host-read-group s numbers = (one, one, one, one)
+
+pub host-write-group : (numbers : List ℕ) (out : List ℕ)
+    → One (groupPut numbers out .answer .no) × One (groupPut numbers out .answer .length) × One (groupPut numbers out .answer .line) × One (groupPut numbers out .answer .field) × One (groupPut numbers out .out)
+host-write-group numbers out = (one, one, one, one, one)
+
+pub host-start : (settings : List ℕ)
+    → One (startNo settings) × One (laid (settingNumbers atStart) settings)
+host-start settings = (one, one)
+
+pub host-step : (settings : List ℕ) (arrival : ℕ) (line : List ℕ) (out : List ℕ)
+    → One (stepped settings arrival line out .answer .no) × One (stepped settings arrival line out .answer .length) × One (stepped settings arrival line out .answer .line) × One (stepped settings arrival line out .answer .field) × One (stepped settings arrival line out .numbers) × One (stepped settings arrival line out .out)
+host-step settings arrival line out = (one, one, one, one, one, one)
+
+pub host-counts : (settings : List ℕ)
+    → One (countsAt settings .no) × One (countsAt settings .gps) × One (countsAt settings .glonass)
+host-counts settings = (one, one, one)

@@ -1,0 +1,33 @@
+-- Document 01's worked listing: its three lines, read and put as rows, are the three rows that it gives. Each is an equation that is computed.
+use Prim.Native.Nat.{ℕ}
+use Prim.Native.String.{String}
+use mathlib.Core.Path.{_≡_, refl}
+use mathlib.Core.List.{List}
+use mathlib.Core.Bool.{false}
+use mathlib.Core.Option.{bind}
+use Rattle.digits.specs.Ascii.{ascii}
+use Rattle.digits.specs.Decimal.{isDigit, digitsFrom, digitsOf}
+use Rattle.digits.specs.Hex.{hexDigit, hexOf}
+use Rattle.digits.specs.Same.{same}
+use Rattle.line.specs.Line.{noneOf, bodyByte, bodyBytes, xorFrom, xorOf, endForm, lineForm, endGives, lineRefusal}
+use Rattle.address.specs.Address.{lookUp, knownOf, commaFree, addressOf}
+use Rattle.fields.specs.Fields.{onto, fieldsOf}
+use Rattle.forms.specs.Fixed.{fixedOf}
+use Rattle.forms.specs.Got.{maybeOf, withinOf}
+use Rattle.records.specs.Answers.{answered, counted, answeredBeside}
+use Rattle.records.specs.Wrong.{nearOf, firstWrong}
+use Rattle.satellites.specs.View.{firstOf, entryAt, entryFrom, entryForm, entriesOf, gsvFrom, gsvWith, gsvOf}
+use Rattle.navigation.specs.Gga.{ggaOf}
+use Rattle.reading.specs.Lines.{readBody, readLine}
+use Rattle.text.specs.Numbers.{digitsWithin, decimalText}
+use Rattle.rows.specs.Row.{fiveBytes, addressText, answerText, rowText}
+
+-- The row of a line that is the nth found, without its numbers.
+abbrev pub listed : ℕ → String → List ℕ
+listed n line = rowText n (ascii line) (readLine (ascii line)) false
+
+pub worked : (listed 1 "$GPGSV,5,5,17,77,71,048,53*43\r\n" ≡ ascii "1 GPGSV ok\n")
+    × ((listed 2 "$GPSGG,CSTART*6B\r\n" ≡ ascii "2 - refused 3 0\n")
+    × (listed 3 "$GPGGA,000008.00,,,,,0,,,,,,*40\r\n" ≡ ascii "3 GPGGA refused 4 0\n"))
+unfolding isDigit digitsFrom digitsOf hexDigit hexOf same noneOf bodyByte bodyBytes xorFrom xorOf endForm lineForm endGives lineRefusal lookUp knownOf commaFree addressOf onto fieldsOf fixedOf maybeOf withinOf answered counted answeredBeside nearOf firstWrong firstOf entryAt entryFrom entryForm entriesOf gsvFrom gsvWith gsvOf ggaOf readBody readLine bind digitsWithin decimalText fiveBytes addressText answerText
+worked = (refl, (refl, refl))

@@ -1,0 +1,4 @@
+pub mod Records
+pub mod Whole
+pub mod Lines
+pub mod Host
