@@ -11,7 +11,7 @@ use mir.Val.{ofZ, toZ}
 use Rattle.slots.specs.Slots.{markOf, isThere, laid, talkerNumber, talkerOf}
 use Rattle.address.specs.declared.Talker.{Talker}
 use Rattle.records.specs.declared.Gga.{Gga}
-use Rattle.tonumbers.specs.Layout.{ggaNumbers, gllNumbers, gsaNumbers, gsvNumbers, rmcNumbers, vtgNumbers, zdaNumbers, pirprNumbers, pirtrNumbers, pirsrNumbers, pirpaNumbers, pirtaNumbers, pirsaNumbers, pireaNumbers, numbersOf, kindOf}
+use Rattle.tonumbers.specs.Layout.{ggaNumbers, gllNumbers, gsaNumbers, gsvNumbers, rmcNumbers, vtgNumbers, zdaNumbers, pirprNumbers, pirtrNumbers, pirsrNumbers, pirpaNumbers, pirtaNumbers, pirsaNumbers, pireaNumbers, numbersOf, kindOf, countOf}
 use Rattle.records.specs.declared.Gll.{Gll}
 use Rattle.records.specs.declared.Gsa.{Gsa}
 use Rattle.records.specs.declared.Gsv.{Gsv}
@@ -27,7 +27,7 @@ use Rattle.records.specs.declared.MasksTold.{MasksTold}
 use Rattle.records.specs.declared.CodeTold.{CodeTold}
 use Rattle.records.specs.declared.Reading.{Reading}
 use Rattle.records.specs.declared.Sentence.{Sentence}
-use Rattle.fromnumbers.specs.Back.{ggaAt, gllAt, gsaAt, gsvAt, rmcAt, vtgAt, zdaAt, pirprAt, pirtrAt, pirsrAt, pirpaAt, pirtaAt, pirsaAt, pireaAt, recordAt}
+use Rattle.fromnumbers.specs.Back.{ggaAt, gllAt, gsaAt, gsvAt, rmcAt, vtgAt, zdaAt, pirprAt, pirtrAt, pirsrAt, pirpaAt, pirtaAt, pirsaAt, pireaAt, addressAt}
 use Rattle.fromnumbers.specs.Values.{maybeAt, numberAt, knotsAt, kmhAt, signedAt, zoneAt, placeAt, dateAt, entryAt}
 use Rattle.sky.specs.declared.Table.{Table}
 use Rattle.skynumbers.specs.Numbers.{skyNumbers, tableAt}
@@ -193,8 +193,11 @@ date-at n i = one
 pub entry-at : (n : List ℕ) (number : ℕ) (elevation : ℕ) (azimuth : ℕ) (signal : ℕ) → One (entryAt n number elevation azimuth signal)
 entry-at n number elevation azimuth signal = one
 
-pub record-at : (kind : ℕ) (n : List ℕ) → One (recordAt kind n)
-record-at kind n = one
+pub count-of : (kind : ℕ) → One (countOf kind)
+count-of kind = one
+
+pub address-at : (kind : ℕ) (talker : ℕ) → One (addressAt kind talker)
+address-at kind talker = one
 
 -- skynumbers, settingnumbers
 pub lay-sky : (t : Talker) (r : Table) (out : List ℕ) → One (leb 254 (length out)) × One (laid (skyNumbers t r) out)
