@@ -98,28 +98,16 @@ fn fault(r: Gsv) -> Written
     sealing::refuse(5, 0, 0)
 }
 
-// The fields of an entry that is used, by its number and its three values, each with whether it is there.
-fn put_entry(
-    out: &mut [u8],
-    at: usize,
-    used: bool,
-    number: u32,
-    e: bool,
-    elevation: u32,
-    a: bool,
-    azimuth: u32,
-    s: bool,
-    signal: u32,
-) -> usize
-    ensures { λ n. ⌜ PutsFields (held at (now (out .entry))) (entryFields used (record { number = number; elevation = record { there = e; value = elevation }; azimuth = record { there = a; value = azimuth }; signal = record { there = s; value = signal } })) (held n (now (out .exit))) ⌝ }
+fn put_entry(out: &mut [u8], at: usize, used: bool, e: Entry) -> usize
+    ensures { λ n. ⌜ PutsFields (held at (now (out .entry))) (entryFields used e) (held n (now (out .exit))) ⌝ }
 {
     if !used {
         return at;
     }
-    let a0 = texts::two(out, at, true, number);
-    let a1 = texts::two(out, a0, e, elevation);
-    let a2 = texts::three(out, a1, a, azimuth);
-    texts::two(out, a2, s, signal)
+    let a0 = texts::two(out, at, true, e.number);
+    let a1 = texts::two(out, a0, e.elevation.there, e.elevation.value);
+    let a2 = texts::three(out, a1, e.azimuth.there, e.azimuth.value);
+    texts::two(out, a2, e.signal.there, e.signal.value)
 }
 
 fn put_fields(out: &mut [u8], at: usize, r: Gsv) -> usize
@@ -128,58 +116,10 @@ fn put_fields(out: &mut [u8], at: usize, r: Gsv) -> usize
     let a0 = texts::one(out, at, true, r.lines);
     let a1 = texts::one(out, a0, true, r.line);
     let a2 = texts::two(out, a1, true, r.satellites);
-    let e0 = r.entries[0];
-    let a3 = put_entry(
-        out,
-        a2,
-        0 < r.count,
-        e0.number,
-        e0.elevation.there,
-        e0.elevation.value,
-        e0.azimuth.there,
-        e0.azimuth.value,
-        e0.signal.there,
-        e0.signal.value,
-    );
-    let e1 = r.entries[1];
-    let a4 = put_entry(
-        out,
-        a3,
-        1 < r.count,
-        e1.number,
-        e1.elevation.there,
-        e1.elevation.value,
-        e1.azimuth.there,
-        e1.azimuth.value,
-        e1.signal.there,
-        e1.signal.value,
-    );
-    let e2 = r.entries[2];
-    let a5 = put_entry(
-        out,
-        a4,
-        2 < r.count,
-        e2.number,
-        e2.elevation.there,
-        e2.elevation.value,
-        e2.azimuth.there,
-        e2.azimuth.value,
-        e2.signal.there,
-        e2.signal.value,
-    );
-    let e3 = r.entries[3];
-    put_entry(
-        out,
-        a5,
-        3 < r.count,
-        e3.number,
-        e3.elevation.there,
-        e3.elevation.value,
-        e3.azimuth.there,
-        e3.azimuth.value,
-        e3.signal.there,
-        e3.signal.value,
-    )
+    let a3 = put_entry(out, a2, 0 < r.count, r.entries[0]);
+    let a4 = put_entry(out, a3, 1 < r.count, r.entries[1]);
+    let a5 = put_entry(out, a4, 2 < r.count, r.entries[2]);
+    put_entry(out, a5, 3 < r.count, r.entries[3])
 }
 
 fn put_body(out: &mut [u8], t: Talker, r: Gsv) -> usize

@@ -1,5 +1,5 @@
 -- Three fields, then the entries.
-use Rattle.put.proofs.Chain.{_then_, fields-kept}
+use Rattle.put.proofs.Chain.{_then_}
 use Rattle.writesat.specs.Gsv.{gsvFields}
 use borrow.Author.Needs.{needs}
 use Rattle.writesat.proofs.gsv.put_fields.Statement.{statement}
@@ -8,9 +8,6 @@ use Rattle.writesat.proofs.gsv.put_fields.Tie as tie
 returns : tie.Need-returns
 unfolding gsvFields
 returns c = c .before .before .before .before .before .before .before .before .before .before .before .before .before .before .before .before .before .before .before .before .before .before .before .before .before .before .before .before .before .before .one .ensures then c .before .before .before .before .before .before .before .before .before .before .before .before .before .before .before .before .before .before .before .before .before .before .before .before .before .before .one2 .ensures then c .before .before .before .before .before .before .before .before .before .before .before .before .before .before .before .before .before .before .before .before .before .before .two .ensures then (c .before .before .before .before .before .before .before .before .before .before .before .before .before .before .before .before .before .put-entry .ensures then (c .before .before .before .before .before .before .before .before .before .before .before .before .put-entry2 .ensures then (c .before .before .before .before .before .before .before .put-entry3 .ensures then c .before .before .put-entry4 .ensures)))
-
-same-length : tie.Need-same-length
-same-length c = fields-kept (returns c)
 
 pub put-fields-spec : {M : Type 1} → statement M
 put-fields-spec =
@@ -27,5 +24,5 @@ put-fields-spec =
     (λ c κs. search needs)
     (λ c. search needs)
     (λ c κs. search needs)
-    same-length
+    (λ c. search needs)
     returns)
