@@ -5,7 +5,6 @@ proved one alone over a quarter, a half and all of the log: its time a megabyte 
 """
 
 import hashlib
-import os
 import statistics
 import subprocess
 import sys
@@ -42,14 +41,15 @@ def race(sides, log, size):
     return 0
 
 
-def memory(command, log):
-    """Gives the most memory, in kilobytes, that the command had over the log."""
-    log.seek(0)
-    process = subprocess.Popen(command, stdin=log, stdout=subprocess.DEVNULL)
-    _, status, usage = os.wait4(process.pid, 0)
-    process.returncode = os.waitstatus_to_exitcode(status)
+def memory(command, data):
+    """Gives the most memory, in kilobytes, that the command had over the bytes, by what the system tells while it still waits for more."""
+    with subprocess.Popen(command, stdin=subprocess.PIPE, stdout=subprocess.DEVNULL) as process:
+        process.stdin.write(data)
+        process.stdin.flush()
+        with open("/proc/%d/status" % process.pid, encoding="ascii") as status:
+            most = [line.split()[1] for line in status if line.startswith("VmHWM")]
     assert process.returncode == 0, (command, process.returncode)
-    return usage.ru_maxrss
+    return int(most[0])
 
 
 def growth(command, whole):
@@ -60,7 +60,7 @@ def growth(command, whole):
             log.write(whole[:size])
             log.flush()
             took = statistics.median(run(command, log)[0] for _ in range(RUNS))
-            print("listing of %.1f MB: %.2f ms/MB, at most %d kB of memory" % (size / 1e6, took * 1e9 / size, memory(command, log)))
+            print("listing of %.1f MB: %.2f ms/MB, at most %d kB of memory" % (size / 1e6, took * 1e9 / size, memory(command, whole[:size])))
 
 
 def main(arguments):
