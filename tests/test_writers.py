@@ -87,3 +87,8 @@ def test_a_row_longer_than_the_buffer_ends_the_program():
         out, said = run("scribe", b"PIRER 82\n" + b"x" * length + b"\nPIRER 82\n", status=1)
         assert out == written(b"PIRER,0") + b"\n" and said == b"scribe: a row is too long\n"
     assert answers([b"x" * 65535, b"PIRER 82"]) == [b"no row", written(b"PIRER,0")]
+
+
+def test_an_argument_is_refused_in_words():
+    out, said = run("scribe", b"PIRER 82\n", "extra", status=2)
+    assert out == b"" and said.startswith(b"scribe: it takes no argument"), (out, said)

@@ -10,6 +10,7 @@ mod skies;
 mod tests;
 mod words;
 
+use std::env;
 use std::io::{self, Read, Write};
 use std::process::ExitCode;
 
@@ -81,6 +82,10 @@ fn answer_all(input: &mut impl Read, output: &mut impl Write) -> Result<(), Stri
 }
 
 fn main() -> ExitCode {
+    if env::args_os().len() > 1 {
+        eprintln!("scribe: it takes no argument; rows come in on standard input, and an answer goes out for each");
+        return ExitCode::from(2);
+    }
     match answer_all(&mut io::stdin().lock(), &mut io::stdout().lock()) {
         Ok(()) => ExitCode::SUCCESS,
         Err(what) => {
