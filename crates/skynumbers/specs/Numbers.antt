@@ -4,16 +4,13 @@ use mathlib.Core.List.{List, [], _∷_, _++_}
 use lib.ListN.{getD}
 use Rattle.address.specs.declared.Talker.{Talker}
 use Rattle.records.specs.declared.Entry.{Entry}
-use Rattle.records.specs.declared.values.Maybe.{Maybe}
 use Rattle.sky.specs.declared.Table.{Table}
-use Rattle.slots.specs.Slots.{markOf, isThere, talkerNumber}
+use Rattle.slots.specs.Slots.{talkerNumber}
+use Rattle.tonumbers.specs.Layout.{entry}
+use Rattle.fromnumbers.specs.Values.{maybeAt}
 
 abbrev pub entryNumbers : Entry → List ℕ
-entryNumbers e =
-    e .number
-    ∷ markOf (e .elevation .there) ∷ e .elevation .value
-    ∷ markOf (e .azimuth .there) ∷ e .azimuth .value
-    ∷ markOf (e .signal .there) ∷ e .signal .value ∷ []
+entryNumbers e = entry e []
 
 unfoldable pub placeNumbers : List Entry → List ℕ
 placeNumbers [] = []
@@ -23,9 +20,6 @@ unfoldable pub skyNumbers : Talker → Table → List ℕ
 skyNumbers t r = talkerNumber t ∷ r .count ∷ placeNumbers (r .entries)
 
 -- The table that numbers say: the count in place 1, the first entry from place 2 on; a number that is not there is taken as 0.
-abbrev pub maybeAt : List ℕ → ℕ → Maybe
-maybeAt n i = record { there = isThere (getD n i 0); value = getD n (i + 1) 0 }
-
 abbrev pub entryAt : List ℕ → ℕ → Entry
 entryAt n i = record { number = getD n i 0; elevation = maybeAt n (i + 1); azimuth = maybeAt n (i + 3); signal = maybeAt n (i + 5) }
 

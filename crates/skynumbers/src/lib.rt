@@ -9,7 +9,8 @@ ghost use Prim.Native.Nat.{_≤_};
 ghost use lib.Dec.{leb};
 ghost use lib.ListN.{length};
 ghost use Rattle.slots.specs.Slots.{laid};
-ghost use Rattle.skynumbers.specs.Numbers.{entryNumbers, skyNumbers, maybeAt, entryAt, tableAt};
+ghost use Rattle.skynumbers.specs.Numbers.{entryNumbers, skyNumbers, entryAt, tableAt};
+ghost use Rattle.fromnumbers.specs.Values.{maybeAt};
 
 // Stores the seven numbers of an entry at the start of `out`, where there is room for them.
 fn lay_entry(out: &mut [u32], e: Entry) -> bool
