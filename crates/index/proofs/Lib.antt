@@ -1,0 +1,9 @@
+pub mod Ranges
+pub mod Parts
+pub mod Back
+pub mod ReadLaws
+pub mod Places
+pub mod Scanning
+pub mod Storing
+pub mod Planning
+pub mod Answering

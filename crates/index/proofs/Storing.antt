@@ -1,0 +1,84 @@
+-- Numbers of entries stored one after another, and bytes put one after another: what is stored goes before what is left.
+use Prim.Native.Nat.{ℕ, zero, suc, _+_, _-_, _≤_, _<_}
+use mathlib.Core.Path.{_≡_, refl, sym, ap, _∙_}
+use mathlib.Core.List.{List, [], _∷_, _++_}
+use native.Mathlib.Omega.{arith}
+use native.Mathlib.Numerals.{add-one}
+use lib.ListN.{length, getD, drop, drop-of-length-le, length-drop}
+use lib.Seq.{drop-cons}
+use Rattle.put.specs.Wrote.{Held, held, wrote, Puts}
+use Rattle.put.proofs.Chain.{wrote-append}
+use Rattle.index.specs.declared.Entry.{Entry}
+use Rattle.index.specs.Index.{origin, entryBytes, bytesFrom, Listing, listed, noIndex, onto, readFrom, readIndex}
+use Rattle.index.specs.Answers.{numbersOf, entriesOf, entriesIn, threeAt}
+use Rattle.index.proofs.Places.{Entered}
+
+-- The entries from the place on, whose numbers are still to be stored.
+pub record Storing (s out₀ out : List ℕ) (place : ℕ) (last : Entry) (at : ℕ) : Type 0 where
+  pub left : List Entry
+  pub reads : readFrom last (drop at s) ≡ listed left
+  pub stores : wrote (held place out) (numbersOf left) ≡ wrote (held 0 out₀) (numbersOf (entriesIn (readIndex s)))
+
+pub storing-start : (s out : List ℕ) → readIndex s ≡ listed (entriesIn (readIndex s)) → Storing s out out 0 origin 0
+storing-start s out h = record { left = entriesIn (readIndex s); reads = h; stores = refl }
+
+numbers-next : (e : Entry) (es : List Entry) → numbersOf (e ∷ es) ≡ numbersOf (e ∷ []) ++ numbersOf es
+unfolding numbersOf
+numbers-next e es = refl
+
+pub storing-next : {s out₀ out out' : List ℕ} {place place' : ℕ} {last e : Entry} {at p : ℕ} → Storing s out₀ out place last at → Entered s at last e p
+    → Puts (held place out) (numbersOf (e ∷ [])) (held place' out') → Storing s out₀ out' place' e p
+storing-next {s} {out₀} {out} {out'} {place} {place'} {last} {e} {at} {p} x t put = go (readFrom e (drop p s)) refl
+  where
+    go : (y : Listing) → readFrom e (drop p s) ≡ y → Storing s out₀ out' place' e p
+    go noIndex f = let z : _≡_ {A = ℕ} 0 1 = cc (x .reads, t .reads, ap (onto e) f) in let n : ⊥ = omega arith in absurd n
+    go (listed es) f =
+        let is : listed (e ∷ es) ≡ listed (x .left) = sym (ap (onto e) f) ∙ sym (t .reads) ∙ x .reads in
+        let same : x .left ≡ e ∷ es = cc in
+        record {
+          left = es;
+          reads = f;
+          stores =
+              ap (λ (h : Held). wrote h (numbersOf es)) (put .is)
+              ∙ sym (wrote-append (held place out) (numbersOf (e ∷ [])) (numbersOf es))
+              ∙ ap (wrote (held place out)) (sym (numbers-next e es) ∙ ap numbersOf (sym same))
+              ∙ x .stores;
+        }
+
+pub storing-end : {s out₀ out : List ℕ} {place : ℕ} {last : Entry} {at : ℕ} → Storing s out₀ out place last at → readFrom last (drop at s) ≡ listed []
+    → Puts (held 0 out₀) (numbersOf (entriesIn (readIndex s))) (held place out)
+unfolding numbersOf wrote
+storing-end {s} {out₀} {out} {place} {last} {at} x f =
+    let none : x .left ≡ [] = cc (x .reads, f) in
+    record { is = sym (ap (λ (es : List Entry). wrote (held place out) (numbersOf es)) none) ∙ x .stores }
+
+pub storing-never : {A : Type 0} {s out₀ out : List ℕ} {place : ℕ} {last : Entry} {at : ℕ} → Storing s out₀ out place last at → readFrom last (drop at s) ≡ noIndex → A
+storing-never x f = let z : _≡_ {A = ℕ} 0 1 = cc (x .reads, f) in let n : ⊥ = omega arith in absurd n
+
+-- The entry of the next three numbers, and none where there are fewer.
+pub three-next : (ns : List ℕ) (i : ℕ) → i + 3 ≤ length ns → entriesOf (drop i ns) ≡ threeAt ns i ∷ entriesOf (drop (i + 3) ns)
+unfolding entriesOf
+three-next ns i h =
+    let two : suc i ≡ i + 1 = omega arith in
+    let three : suc (i + 1) ≡ i + 2 = omega arith in
+    let four : suc (i + 2) ≡ i + 3 = omega arith in
+    rw (drop-cons ns i 0 (omega arith), two, drop-cons ns (i + 1) 0 (omega arith), three, drop-cons ns (i + 2) 0 (omega arith), four)
+
+pub three-none : (ns : List ℕ) → length ns < 3 → entriesOf ns ≡ []
+unfolding entriesOf
+three-none [] h = refl
+three-none (a ∷ []) h = refl
+three-none (a ∷ (b ∷ [])) h = refl
+three-none (a ∷ (b ∷ (c ∷ ns))) h = let z : ⊥ = omega arith in absurd z
+
+-- The bytes of the entries from place i on.
+module _ (ns : List ℕ) (i : ℕ) (last : Entry) where
+  pub put-next : {h k : Held} → i + 3 ≤ length ns → Puts h (entryBytes last (threeAt ns i)) k
+      → wrote k (bytesFrom (threeAt ns i) (entriesOf (drop (i + 3) ns))) ≡ wrote h (bytesFrom last (entriesOf (drop i ns)))
+  unfolding bytesFrom
+  put-next {h} {k} l p =
+      rw (three-next ns i l, p .is) (sym (wrote-append h (entryBytes last (threeAt ns i)) (bytesFrom (threeAt ns i) (entriesOf (drop (i + 3) ns)))))
+
+  pub put-end : (h : Held) → length ns - i < 3 → h ≡ wrote h (bytesFrom last (entriesOf (drop i ns)))
+  unfolding bytesFrom wrote
+  put-end h l = rw (three-none (drop i ns) (omega (arith, length-drop i ns)))

@@ -1,0 +1,66 @@
+-- Whether the bytes are an index, and whether there is room, are known before the first number is stored.
+use mathlib.Core.Path.{_≡_, sym, ap, _∙_}
+use native.Mathlib.Omega.{arith}
+use borrow.Author.Tests.{not-true, not-false}
+use Rattle.index.specs.Index.{readIndex}
+use Rattle.index.proofs.Answering.{scan-none, scan-whole, read-none, read-full, read-all}
+use borrow.Author.Needs.{needs}
+use Rattle.index.proofs.reading.read.Statement.{statement}
+use Rattle.index.proofs.reading.read.Tie as tie
+use Rattle.index.proofs.reading.read.Reads as reads
+use Rattle.index.proofs.reading.read.Lts as lts
+use Rattle.index.proofs.reading.listing.Reads as listing-reads
+use Rattle.index.proofs.scan.Reads as scan-reads
+use Rattle.index.proofs.reading.store_all.Reads as store-all-reads
+
+-- src/lib.rt:275:9
+scan-requires : tie.Need-scan-requires
+scan-requires c κs = search needs
+
+-- src/lib.rt:277:9
+listing-requires : tie.Need-listing-requires
+listing-requires c κs = search needs
+
+-- src/lib.rt:277:9
+returns : tie.Need-returns
+returns c = read-none (readIndex (c .before .before .before .before .before .before .args .s .now)) (c .before .before .before .before .before .before .args .entries .now) (scan-none (readIndex (c .before .before .before .before .before .before .args .s .now)) (c .before .before .before .scan .result) (c .before .before .before .scan .ensures) (not-true _ (c .before .if1 .taken))) (c .listing .ensures)
+
+-- src/lib.rt:280:9
+listing-requires-2 : tie.Need-listing-requires-2
+listing-requires-2 c κs = search needs
+
+-- src/lib.rt:280:9
+returns-2 : tie.Need-returns-2
+returns-2 c = let x = scan-whole (readIndex (c .before .before .before .before .before .before .before .before .args .s .now)) (c .before .before .before .before .before .scan .result) (c .before .before .before .before .before .scan .ensures) (not-false _ (c .before .before .before .if1 .left)) in
+    read-full (readIndex (c .before .before .before .before .before .before .before .before .args .s .now)) (c .before .before .before .before .before .before .before .before .args .entries .now) (x .reads) (omega (arith, x .count, c .before .if2 .taken)) (c .listing2 .ensures)
+
+-- src/lib.rt:282:5
+store-all-requires : tie.Need-store-all-requires
+store-all-requires c κs = scan-whole (readIndex (c .before .before .before .before .before .before .before .before .args .s .now)) (c .before .before .before .before .before .scan .result) (c .before .before .before .before .before .scan .ensures) (not-false _ (c .before .before .before .if1 .left)) .reads
+
+-- src/lib.rt:283:5
+listing-requires-3 : tie.Need-listing-requires-3
+listing-requires-3 c κs = search needs
+
+-- src/lib.rt:271:1
+same-length : tie.Need-same-length
+same-length c = search needs
+
+-- src/lib.rt:271:1
+returns-3 : tie.Need-returns-3
+returns-3 c = let x = scan-whole (readIndex (c .before .before .before .before .before .before .before .before .before .before .before .before .args .s .now)) (c .before .before .before .before .before .before .before .before .before .scan .result) (c .before .before .before .before .before .before .before .before .before .scan .ensures) (not-false _ (c .before .before .before .before .before .before .before .if1 .left)) in
+    read-all (readIndex (c .before .before .before .before .before .before .before .before .before .before .before .before .args .s .now)) (c .before .before .before .before .before .before .before .before .before .before .before .before .args .entries .now) (x .reads) (omega (arith, x .count, c .before .before .before .before .before .if2 .left)) (x .count) (c .before .before .before .store-all .ensures) (c .listing3 .ensures)
+
+pub read-spec : {M : Type 1} → statement M
+read-spec =
+    tie.close
+    (tie.spec
+    scan-requires
+    listing-requires
+    returns
+    listing-requires-2
+    returns-2
+    store-all-requires
+    listing-requires-3
+    same-length
+    returns-3)

@@ -1,0 +1,4 @@
+pub mod Groups
+pub mod Turns
+pub mod Taking
+pub mod Steps
