@@ -4,6 +4,7 @@ import random
 import sys
 
 import make_damage
+import make_index
 import make_rows
 
 ROWS = {
@@ -14,6 +15,10 @@ ROWS = {
     "write-groups": make_rows.write_group_row,
     "commands": make_rows.command_row,
     "counts": make_rows.counts_row,
+    "index-write": make_index.write_row,
+    "index-read": make_index.read_row,
+    "index-add": make_index.add_row,
+    "index-find": make_index.find_row,
 }
 
 

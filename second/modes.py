@@ -1,6 +1,7 @@
 """The modes of the second program: what each answers to the bytes of standard input."""
 
 import lines
+from index import Entry, add_entry, find_exhibit, read_index, write_index
 from receiver import mask_counts, settings_from, step
 from refusal import Refusal
 from sentences import KINDS, read_sentence, write_sentence
@@ -23,6 +24,16 @@ def numbers_of_length(words, length):
     if len(words) != length:
         raise SystemExit("a row has %d numbers instead of %d" % (len(words), length))
     return [int(word) for word in words]
+
+
+def bytes_of(word):
+    """Gives the bytes that a word says in hex, `-` for none."""
+    return b"" if word == "-" else bytes.fromhex(word)
+
+
+def word_of(data):
+    """Gives the word that says some bytes in hex, `-` for none."""
+    return data.hex() or "-"
 
 
 def found_lines(data, with_records):
@@ -74,14 +85,37 @@ def answer_write_group(row):
 def answer_command(row):
     """Answers a row of mode `commands`."""
     port, room, *words, text = row.split()
-    line = b"" if text == "-" else bytes.fromhex(text)
-    reply, after = step(settings_from(numbers_of_length(words, 11)), int(port), line, int(room))
+    reply, after = step(settings_from(numbers_of_length(words, 11)), int(port), bytes_of(text), int(room))
     return joined("ok", reply.hex(), after.numbers())
 
 
 def answer_counts(row):
     """Answers a row of mode `counts`."""
     return joined("ok", mask_counts(settings_from(numbers_of_length(row.split(), 11))))
+
+
+def answer_index_write(row):
+    """Answers a row of mode `index-write`, room in bytes and three numbers an entry: the index."""
+    room, *words = row.split()
+    return joined("ok", word_of(write_index([int(word) for word in words], int(room))))
+
+
+def answer_index_read(row):
+    """Answers a row of mode `index-read`, room in numbers and the index: three numbers an entry."""
+    room, text = row.split()
+    return joined("ok", read_index(bytes_of(text), int(room)))
+
+
+def answer_index_add(row):
+    """Answers a row of mode `index-add`, room in bytes, the index and an entry's three numbers: the whole new index."""
+    room, text, *words = row.split()
+    return joined("ok", word_of(add_entry(bytes_of(text), Entry(*numbers_of_length(words, 3)), int(room))))
+
+
+def answer_index_find(row):
+    """Answers a row of mode `index-find`, the index and an exhibit's number: offset and length of its line."""
+    text, number = row.split()
+    return joined("ok", find_exhibit(bytes_of(text), int(number)))
 
 
 ROW_MODES = {
@@ -92,6 +126,10 @@ ROW_MODES = {
     "write-groups": answer_write_group,
     "commands": answer_command,
     "counts": answer_counts,
+    "index-write": answer_index_write,
+    "index-read": answer_index_read,
+    "index-add": answer_index_add,
+    "index-find": answer_index_find,
 }
 
 

@@ -1,10 +1,13 @@
 """Checks the second program against the worked rows, the decisions and itself: `python3 second/selftest.py`."""
 
 import datetime
+import itertools
 import random
 import sys
 
+import index
 import lines
+import make_index
 import make_rows
 import make_text
 from generate import ROWS, generate
@@ -12,7 +15,7 @@ from make_damage import mended
 from modes import answer, answers
 from receiver import Settings, mask_counts, step
 from refusal import Refusal
-from selftest_cases import BODIES, COMMANDS, FIELDS, LINES, RAW_GROUPS, RECORDS
+from selftest_cases import BODIES, COMMANDS, FIELDS, INDEXES, LINES, RAW_GROUPS, RECORDS
 from sentences import KINDS, read_sentence, write_sentence
 from sky import read_group, write_group
 from wide import is_date
@@ -95,6 +98,8 @@ def check_tables():
     for row, wanted in RECORDS:
         got = answer("write", row)
         check(row, bytes.fromhex(got[3:]).decode("ascii").rstrip() if got.startswith("ok") else got, wanted)
+    for mode, row, wanted in INDEXES:
+        check("%s %s" % (mode, row), answer(mode, row), wanted)
 
 
 def check_commands():
@@ -274,6 +279,51 @@ def check_generated():
     check("accepted groups are written so", strange, 0)
 
 
+def check_stored_numbers(rng):
+    """Numbers come back from their groups, whatever follows; with a needless group, and past the most, they do not."""
+    numbers = [2 ** bits + more for bits in range(32) for more in (-1, 0, 1)] + [index.MOST]
+    numbers += [rng.randint(0, index.MOST) for _ in range(1000)]
+    lost = 0
+    for number in numbers:
+        groups = index.number_bytes(number)
+        needless = groups[:-1] + bytes([groups[-1] | 128, 0])
+        lost += said(index.number_at, b"xy" + groups + b"\xff", 2) != (number, 2 + len(groups))
+        lost += len(groups) != max(1, -(-number.bit_length() // 7))
+        lost += said(index.number_at, needless, 0) != (11, 0, 0) or said(index.number_at, groups[:-1], 0) != (11, 0, 0)
+    check("stored numbers", lost, 0)
+    past = [index.MOST + 1, 2 ** 35 - 1, 2 ** 35, 2 ** 64 - 1]
+    check("past the most", {said(index.number_at, index.number_bytes(number), 0) for number in past}, {(11, 0, 0)})
+
+
+def check_indexes(rng):
+    """Entries in order come back, whole and added one by one; each is found; one byte of room less is refused."""
+    lost = 0
+    for _ in range(1500):
+        entries = make_index.sound(rng)
+        numbers = [number for entry in entries for number in entry]
+        data = index.write_index(numbers, 1000)
+        grown = b""
+        for entry in entries:
+            grown = index.add_entry(grown, entry, 1000)
+            lost += said(index.find_exhibit, data, entry.number) != entry[1:]
+        lost += grown != data or said(index.read_index, data, len(numbers)) != numbers
+        lost += bool(data) and said(index.write_index, numbers, len(data) - 1) != (8, 0, 0)
+        lost += bool(data) and said(index.read_index, data, len(numbers) - 1) != (8, 0, 0)
+    check("indexes come back", lost, 0)
+
+
+def check_index_bytes():
+    """Of all short byte strings over a few bytes, and of all damage to an index, those that read are what is written."""
+    alphabet = bytes([0, 1, 6, 7, 0x52, 0x53, 0x80, 0x81])
+    short = [bytes(one) for length in range(6) for one in itertools.product(alphabet, repeat=length)]
+    longer = [hurt for row in ("020046080050", "ac02800152", "ffffffff0fadffffff0f52") for hurt in damaged(bytes.fromhex(row))]
+    for name, strings in (("short", short), ("damaged", longer)):
+        read = [(data, said(index.read_index, data, 99)) for data in set(strings)]
+        sound = [(data, numbers) for data, numbers in read if numbers != (11, 0, 0)]
+        check("%s bytes that read" % name, [data for data, numbers in sound if index.write_index(numbers, 99) != data], [])
+        check("some %s bytes read, most do not" % name, 100 < len(sound) < len(read) / 2, True)
+
+
 def main():
     """Runs all checks; the last line says how many passed and failed."""
     rng = random.Random(2024)
@@ -286,6 +336,9 @@ def main():
     check_groups(rng)
     check_damage(rng)
     check_first_wrong(rng)
+    check_stored_numbers(rng)
+    check_indexes(rng)
+    check_index_bytes()
     check_generated()
     print("%d passed, %d failed" % (counts[True], counts[False]))
     return 1 if counts[False] else 0

@@ -7,7 +7,8 @@ from test_second import second
 
 # A mode of the second program, and the word by which the scribe knows its rows.
 WORDS = {"lines": b"line ", "field": b"field ", "write": b"", "groups": b"group ", "write-groups": b"table ", "commands": b"step ",
-         "counts": b"counts "}
+         "counts": b"counts ", "index-write": b"index-write ", "index-read": b"index-read ", "index-add": b"index-add ",
+         "index-find": b"index-find "}
 # Where a row has the GPS mask of the settings.
 MASKS = {"commands": 10, "counts": 8}
 

@@ -6,7 +6,7 @@ from programs import ROOT, run
 from test_second import second
 
 START = "4800 4 127 4800 4 127 0 0 4294967295 16777215 0"
-MODES = ("read", "group", "command", "counts")
+MODES = ("read", "group", "command", "counts", "index")
 
 
 def blocks(mode):
@@ -77,6 +77,14 @@ def test_commands():
                 got = bytes.fromhex(reply).decode().removesuffix("\r\n")
             assert got == answer, line
     assert scribe("step", asked) == came
+
+
+def test_indexes():
+    asked = [pair for _, rows in blocks("index") for pair in pairs(rows)]
+    answers = [answer for _, answer in asked]
+    assert {answer.split(" 0 0")[0] for answer in answers if answer.startswith("refused")} == {"refused 5", "refused 11", "refused 12"}
+    assert [says(*row.split(" ", 1)) for row, _ in asked] == answers
+    assert run("scribe", "".join(row + "\n" for row, _ in asked).encode())[0].decode().splitlines() == answers
 
 
 def test_every_sample_by_the_second_program():

@@ -12,8 +12,8 @@ def compared(*words):
 def test_a_few_thousand():
     status, said = compared("--count", "8000", "--seed", "61")
     assert (status, said[-1]) == (0, "8000 compared, 0 differ"), said
-    counts = [int(row.split(":")[0].split()[-1]) for row in said[:7]]
-    assert len(said) == 9 and sum(counts) == 8000 and min(counts) > 300, said
+    counts = [int(row.split(":")[0].split()[-1]) for row in said[:11]]
+    assert len(said) == 13 and sum(counts) == 8000 and min(counts) > 150, said
 
 
 def test_answers_that_differ_are_told():
