@@ -161,12 +161,13 @@ fn is_index(bytes: &[u8]) -> bool {
     let entries = plain_entries(bytes);
     let expected = entries.as_deref().map(numbers_of).ok_or(of(11));
     assert_eq!(read(bytes, bytes.len()), expected, "{:?}", bytes);
-    let (number, place) = match entries.as_deref().map(<[Exhibit]>::last) {
-        None => (1, Err(of(11))),
-        Some(None) => (1, Err(of(12))),
-        Some(Some(last)) => (last.number, Ok((last.offset, last.length))),
-    };
-    assert_eq!(numbers::index_find(bytes, number), place, "{:?}", bytes);
+    let last = entries.as_deref().unwrap_or(&[]).last().copied();
+    let place = last.map(|e| (e.offset, e.length)).ok_or(of(if entries.is_some() { 12 } else { 11 }));
+    assert_eq!(numbers::index_find(bytes, last.map_or(1, |e| e.number)), place, "{:?}", bytes);
+    if entries.is_none() {
+        assert_eq!(read(bytes, 0), expected, "{:?}", bytes);
+        assert!([0, 7, MOST, u64::MAX].iter().all(|&number| numbers::index_find(bytes, number) == Err(of(11))));
+    }
     let nowhere = Exhibit { number: 0, offset: 0, length: 0 };
     assert_eq!(add(bytes, 0, nowhere), Err(of(if entries.is_some() { 5 } else { 11 })), "{:?}", bytes);
     entries.is_some()
