@@ -143,13 +143,17 @@ fn changed(r: &mut Random, bytes: &[u8]) -> Vec<u8> {
     changed
 }
 
-/// Entries, most of them with a number of any size in the place of one of theirs.
+/// Entries, most of them with a number of any size, or one about the end of 32 or of 64 bits, in the place of one of theirs.
 fn some_entries(r: &mut Random) -> Vec<u64> {
     let count = r.below(12) as usize;
     let mut entries = entries_of(r, count);
     if count > 0 && r.below(4) > 0 {
         let at = r.below(entries.len() as u64) as usize;
-        entries[at] = r.below(100) << r.below(58);
+        entries[at] = match r.below(4) {
+            0 => (1 << 32) - r.below(90),
+            1 => u64::MAX - r.below(90),
+            _ => r.below(100) << r.below(58),
+        };
     }
     if r.below(8) == 0 {
         entries.push(r.below(100));
