@@ -176,7 +176,7 @@ fn is_index(bytes: &[u8]) -> bool {
 #[test]
 fn every_change_of_one_byte() {
     let (mut rng, mut met) = (Rng::new(63), [0; 2]);
-    for turn in 0..40 {
+    for turn in 0..20 {
         let sound = plain_bytes(&some_entries(&mut rng, turn % 5)).expect("entries in range and order");
         assert!(is_index(&sound));
         for at in 0..=sound.len() {
