@@ -1,8 +1,9 @@
 //! GNSS sentences (IEC 61162-1, NMEA 0183), satellite groups, the class receiver and the index by exhibit number, over a proved library.
 //!
 //! Every reading, writing and step here is done by a function of `crates/host`, which is proved to do, for all input, what its
-//! definition says. What this crate adds is not proved: it lays typed records out as numbers and takes them up again, and keeps bytes
-//! between calls. It refuses nothing by itself, but for [`Index::find`], which searches entries that were read before. Every refusal is a [`Refusal`] with its number, line and field.
+//! definition says. What this crate adds is not proved: it lays typed records out as numbers and takes them up again, keeps bytes
+//! between calls, and searches the entries of an [`Index`] that were read. But for an exhibit that is not among these it refuses nothing
+//! by itself. Every refusal is a [`Refusal`] with its number, line and field.
 //!
 //! ```
 //! let log = b"$PIRTR,1,-0030*52\r\n$GPGSV,1,1,00*79\r\n";
