@@ -1,6 +1,7 @@
 //! The proved functions against the same work written by hand in Rust, over one log.
 
 mod groups;
+mod indexes;
 mod log;
 mod rattle;
 mod records;
@@ -150,9 +151,12 @@ fn race(one: &dyn Fn() -> u64, two: &dyn Fn() -> u64) -> (f64, f64) {
 }
 
 fn row(what: &str, bytes: usize, lines: usize, (rattle, rust): (f64, f64)) {
-    let ns = |t: f64| t * 1e9 / lines as f64;
+    let ns = |t: f64| {
+        let each = t * 1e9 / lines as f64;
+        format!("{:.*}", usize::from(each < 10.0), each)
+    };
     let mb = |t: f64| bytes as f64 / t / 1e6;
-    println!("| {} | {:.0} | {:.0} | {:.0} | {:.0} | {:.2} |", what, ns(rattle), ns(rust), mb(rattle), mb(rust), rust / rattle);
+    println!("| {} | {} | {} | {:.0} | {:.0} | {:.2} |", what, ns(rattle), ns(rust), mb(rattle), mb(rust), rust / rattle);
 }
 
 /// The finder, the line rule and the fields, over a log.
@@ -221,6 +225,16 @@ fn rows_of_writing(lines: &[&[u8]], kinds: &[(&str, Vec<&[u8]>)]) {
     show_each("line read and its record written, fifteen kinds, none refused", &kinds[0].1);
 }
 
+/// Rows of an index: an entry counts as a line, the bytes are those of the index.
+fn rows_of_indexes() {
+    let index = indexes::of(SEED, indexes::ENTRIES);
+    indexes::agree(&index);
+    let show = |what, goes, times| row(what, goes * index.bytes.len(), goes * indexes::ENTRIES, times);
+    show("index written", 1, race(&|| index.written_by_rattle(), &|| index.written_by_rust()));
+    show("index read", 1, race(&|| index.read_by_rattle(), &|| index.read_by_rust()));
+    show("exhibit found", 4, race(&|| index.found_by_rattle(), &|| index.found_by_rust()));
+}
+
 /// `bench MIXED LOG`: MIXED is a log of all kinds, most lines damaged; the log that the rows are of is written to LOG.
 fn main() {
     let mixed = records::mixed();
@@ -242,6 +256,7 @@ fn main() {
     rows_of_groups();
     row_of_steps(&cut(&mixed));
     rows_of_writing(&lines, &kinds);
+    rows_of_indexes();
 }
 
 #[test]
@@ -253,4 +268,5 @@ fn both_sides_agree() {
     groups::agree(&groups::of(8, 5));
     writing::agree(&cut(&log));
     steps::agree(&steps::of(7), &cut(&log));
+    indexes::agree(&indexes::of(7, 1000));
 }

@@ -88,6 +88,14 @@ pub fn next_line(s: &[u8], at: usize) -> Option<(usize, usize)> {
     None
 }
 
+/// Where an unfinished line begins that may still become one, or the end.
+pub fn unfinished(s: &[u8]) -> usize {
+    match s.iter().rposition(|&b| b == b'$' || b == b'\n') {
+        Some(at) if s[at] == b'$' && s.len() - at < 82 => at,
+        _ => s.len(),
+    }
+}
+
 /// The finder fed byte by byte.
 pub struct Finder {
     kept: [u8; 82],

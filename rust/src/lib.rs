@@ -1,8 +1,9 @@
-//! GNSS sentences (IEC 61162-1, NMEA 0183), satellite groups and the class receiver, over a proved library.
+//! GNSS sentences (IEC 61162-1, NMEA 0183), satellite groups, the class receiver and the index by exhibit number, over a proved library.
 //!
 //! Every reading, writing and step here is done by a function of `crates/host`, which is proved to do, for all input, what its
-//! definition says. What this crate adds is not proved: it lays typed records out as numbers and takes them up again, and keeps bytes
-//! between calls. It refuses nothing by itself. Every refusal is a [`Refusal`] with its number, line and field.
+//! definition says. What this crate adds is not proved: it lays typed records out as numbers and takes them up again, keeps bytes
+//! between calls, and searches the entries of an [`Index`] that were read. But for an exhibit that is not among these it refuses nothing
+//! by itself. Every refusal is a [`Refusal`] with its number, line and field.
 //!
 //! ```
 //! let log = b"$PIRTR,1,-0030*52\r\n$GPGSV,1,1,00*79\r\n";
@@ -23,6 +24,7 @@
 #[allow(unsafe_code)]
 mod ffi;
 mod finder;
+mod index;
 pub mod numbers;
 mod receiver;
 mod records;
@@ -34,6 +36,7 @@ mod walk;
 
 pub use ffi::{line_refusal, refusal};
 pub use finder::{lines, Finder, Lines, LONGEST};
+pub use index::{Exhibit, Index, NoLine};
 pub use receiver::{Counts, Done, Port, Settings};
 pub use records::{CodeAsked, CodeTold, DatumAsked, DatumTold, MasksAsked, MasksTold, PortAsked, PortTold};
 pub use records::{Entry, Gga, Gll, Gsa, Gsv, Rmc, Vtg, Zda};

@@ -2,9 +2,11 @@
 //!
 //! docs/LAYOUT.md says which numbers a record, a group and the settings have. A kind goes by [`Kind::number`](crate::Kind::number), a
 //! talker by its place in [`Talker::ALL`](crate::Talker::ALL); a value with a sign stands as its 32 bits in two's complement. Here a caller
-//! can say what a typed record cannot: a value that is marked missing and is not zero, a kind or a talker that there is not.
+//! can say what a typed record cannot: a value that is marked missing and is not zero, a kind or a talker that there is not. The numbers
+//! of an index have 64 bits, so that one past 4294967295 can be said and is refused.
 
 pub use crate::ffi::{counts, feed, next_line, places, read, read_group, start, step, write, write_group};
+pub use crate::ffi::{index_add, index_find, index_read, index_write};
 
 /// The most numbers that a record has, its talker among them.
 pub const RECORD: usize = 33;
@@ -14,6 +16,12 @@ pub const GROUP: usize = 254;
 
 /// How many numbers the settings have.
 pub const SETTINGS: usize = 11;
+
+/// How many numbers an entry of an index has: exhibit number, offset and length of its line.
+pub const ENTRY: usize = 3;
+
+/// The most bytes that an entry of an index takes.
+pub const ENTRY_BYTES: usize = 11;
 
 /// What a number is.
 #[derive(Clone, Copy, Debug, PartialEq, Eq)]

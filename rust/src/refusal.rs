@@ -5,11 +5,11 @@ use std::fmt;
 
 /// A refusal: its number, and the line and the field that it is about.
 ///
-/// The line is 1 for a single line, and 0 where none is to blame: a table of too many satellites, settings out of range. The
+/// The line is 1 for a single line, and 0 where none is to blame: a table of too many satellites, settings out of range, an index. The
 /// field is counted from 1 after the address, and is 0 where none is named.
 #[derive(Clone, Copy, Debug, PartialEq, Eq)]
 pub struct Refusal {
-    /// From 1 to 10; [`Refusal::meaning`] has each in words.
+    /// From 1 to 12; [`Refusal::meaning`] has each in words.
     pub number: u8,
     /// The line, counted from 1, or 0.
     pub line: usize,
@@ -36,6 +36,8 @@ impl Refusal {
             8 => "output shorter than what would be written",
             9 => "sentence is not a command",
             10 => "port's protocol is not 4",
+            11 => "the bytes are no index",
+            12 => "no exhibit has that number",
             _ => "no number of a refusal",
         }
     }

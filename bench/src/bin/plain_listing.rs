@@ -49,14 +49,6 @@ fn put_row(out: &mut Vec<u8>, number: u64, line: &[u8]) {
     out.push(b'\n');
 }
 
-/// Where an unfinished line begins that may still become one, or the end.
-fn unfinished(s: &[u8]) -> usize {
-    match s.iter().rposition(|&b| b == b'$' || b == b'\n') {
-        Some(at) if s[at] == b'$' && s.len() - at < 82 => at,
-        _ => s.len(),
-    }
-}
-
 fn main() -> io::Result<()> {
     let (mut input, mut output) = (io::stdin().lock(), io::stdout().lock());
     let (mut buf, mut out) = (vec![0; BUFFER], Vec::with_capacity(BUFFER));
@@ -77,7 +69,7 @@ fn main() -> io::Result<()> {
             }
             at = end;
         }
-        let from = at + unfinished(&buf[at..n]);
+        let from = at + plain::unfinished(&buf[at..n]);
         buf.copy_within(from..n, 0);
         kept = n - from;
     }

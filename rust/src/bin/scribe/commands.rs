@@ -15,10 +15,7 @@ const MOST: usize = 1024;
 pub fn step(rest: &[u8]) -> Option<String> {
     let blank = rest.iter().rposition(|&b| b == b' ')?;
     let given = words::numbers(&rest[..blank])?;
-    let command = match &rest[blank + 1..] {
-        b"-" => Vec::new(),
-        digits => words::bytes(digits, MOST)?,
-    };
+    let command = words::bytes_or_none(&rest[blank + 1..], MOST)?;
     let cells = Settings::cells();
     let before = words::in_cells(given.get(2..)?, &cells)?;
     let mut lent = Lent::new(ROOM, given[1].room(ROOM)?);

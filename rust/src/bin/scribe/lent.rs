@@ -8,13 +8,21 @@ const FILL: u8 = 0xAA;
 /// A buffer that tells whether a byte was changed which had to stay.
 pub struct Lent {
     bytes: Vec<u8>,
+    before: Vec<u8>,
     room: usize,
 }
 
 impl Lent {
     /// A buffer of so many bytes, of which so many are lent.
     pub fn new(size: usize, room: usize) -> Lent {
-        Lent { bytes: vec![FILL; size], room }
+        Lent::with(&[], size, room)
+    }
+
+    /// The same, where some bytes stand at its start.
+    pub fn with(first: &[u8], size: usize, room: usize) -> Lent {
+        let mut bytes = first.to_vec();
+        bytes.resize(size.max(first.len()), FILL);
+        Lent { before: bytes.clone(), bytes, room }
     }
 
     /// What is lent.
@@ -25,7 +33,7 @@ impl Lent {
     /// `ok` and what was written, or the refusal; `touched` where a byte was changed past what was written.
     pub fn answer(&self, written: Result<usize, Refusal>) -> String {
         let length = written.unwrap_or(0);
-        if !self.bytes.iter().skip(length).all(|&byte| byte == FILL) {
+        if self.bytes.get(length..) != self.before.get(length..) {
             return touched();
         }
         match written {
@@ -37,6 +45,9 @@ impl Lent {
 
 /// What stands in lent numbers before a line or a group is read to them.
 pub const STALE: u32 = 0xAAAA_AAAA;
+
+/// What stands in lent numbers before an index is read to them.
+pub const STALE_WIDE: u64 = 0xAAAA_AAAA_AAAA_AAAA;
 
 /// Whether lent numbers are as they were.
 pub fn is_stale(numbers: &[u32]) -> bool {

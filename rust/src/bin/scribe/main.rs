@@ -1,8 +1,9 @@
-//! Lines and groups, written and read, and commands carried out: standard input of any length, each row a record, a line, a field
-//! of a line, a group, a table, or settings with or without a command; and for each row an answer.
+//! Lines, groups and indexes, written and read, and commands carried out: standard input of any length, each row a record, a line, a
+//! field of a line, a group, a table, settings with or without a command, or an index; and for each row an answer.
 #![forbid(unsafe_code)]
 
 mod commands;
+mod indexes;
 mod lent;
 mod sentences;
 mod skies;
@@ -27,25 +28,29 @@ fn behind<'a>(row: &'a [u8], word: &str) -> Option<&'a [u8]> {
     }
 }
 
+/// What gives the answer to the rest of a row; nothing where it is no row.
+type Answer = fn(&[u8]) -> Option<String>;
+
+/// The first word of a row, and what answers it.
+const WORDS: [(&str, Answer); 10] = [
+    ("group", skies::group),
+    ("table", skies::table),
+    ("step", commands::step),
+    ("counts", commands::counts),
+    ("line", sentences::line),
+    ("field", sentences::field),
+    ("index-write", indexes::write),
+    ("index-read", indexes::read),
+    ("index-add", indexes::add),
+    ("index-find", indexes::find),
+];
+
 /// What a row is answered with; nothing where it is none.
 fn answer(row: &[u8]) -> Option<String> {
-    if let Some(rest) = behind(row, "group") {
-        return skies::group(rest);
-    }
-    if let Some(rest) = behind(row, "table") {
-        return skies::table(rest);
-    }
-    if let Some(rest) = behind(row, "step") {
-        return commands::step(rest);
-    }
-    if let Some(rest) = behind(row, "counts") {
-        return commands::counts(rest);
-    }
-    if let Some(rest) = behind(row, "line") {
-        return sentences::line(rest);
-    }
-    if let Some(rest) = behind(row, "field") {
-        return sentences::field(rest);
+    for (word, answer) in WORDS {
+        if let Some(rest) = behind(row, word) {
+            return answer(rest);
+        }
     }
     sentences::record(row)
 }

@@ -31,6 +31,40 @@ fn a_row_of_each_word() {
 }
 
 #[test]
+fn a_row_of_each_word_of_the_index() {
+    assert_eq!(said("index-write 7 2 300 82 10 382 18"), "ok 02ac0252080012");
+    assert_eq!(said("index-write 6 2 300 82 10 382 18"), "refused 8 0 0");
+    assert_eq!(said("index-write 6 10 300 82 2 382 18"), "refused 5 0 0");
+    assert_eq!(said("index-write 18446744073709551615 18446744073709551615 0 7"), "refused 5 0 0");
+    assert_eq!(said("index-write 0"), "ok -");
+    assert_eq!(said("index-read 6 02ac0252080012"), "ok 2 300 82 10 382 18");
+    assert_eq!(said("index-read 5 02ac0252080012"), "refused 8 0 0");
+    assert_eq!(said("index-read 0 8000"), "refused 11 0 0");
+    assert_eq!(said("index-read 0 -"), "ok");
+    assert_eq!(said("index-add 7 02ac0252 10 382 18"), "ok 02ac0252080012");
+    assert_eq!(said("index-add 6 02ac0252 10 382 18"), "refused 8 0 0");
+    assert_eq!(said("index-add 6 02ac0252 2 382 18"), "refused 5 0 0");
+    assert_eq!(said("index-add 3 02ac0252 10 382 18"), "refused 11 0 0");
+    assert_eq!(said("index-add 3 - 1 0 7"), "ok 010007");
+    assert_eq!(said("index-find 02ac0252080012 10"), "ok 382 18");
+    assert_eq!(said("index-find 02ac0252080012 3"), "refused 12 0 0");
+    assert_eq!(said("index-find 02ac025208 2"), "refused 11 0 0");
+    assert_eq!(said("index-find - 0"), "refused 12 0 0");
+}
+
+#[test]
+fn an_index_of_thousands_of_numbers() {
+    let entries: String = (1..=2000).map(|i| format!(" {} {} 82", 300 * i, 382 * i - 82)).collect();
+    let written = said(&format!("index-write 65536{}", entries));
+    assert_eq!(written, format!("ok {}", "ac02ac0252".repeat(2000)));
+    assert_eq!(said(&written.replace("ok", "index-read 65536")), format!("ok{}", entries));
+    assert_eq!(said(&written.replace("ok", "index-read 5999")), "refused 8 0 0");
+    assert_eq!(said(&(written.replace("ok", "index-find") + " 600000")), "ok 763918 82");
+    let added = said(&(written.replace("ok", "index-add 10003") + " 600001 764000 7"));
+    assert_eq!(added, written + "010007");
+}
+
+#[test]
 fn signed_numbers_both_ways() {
     let zda = said("GPZDA 82 1 2830000 1 15 11 2026 1 -30");
     assert_eq!(zda, format!("ok {}", words::hex(b"$GPZDA,075140.00,15,11,2026,-00,30*4D\r\n")));
@@ -51,6 +85,22 @@ fn rows_that_are_none() {
         "table",
         "step",
         "counts",
+        "index",
+        "index-write",
+        "index-write -1",
+        "index-write 5 1 0 -7",
+        "index-write 5 1  7",
+        "index-write 5 18446744073709551616 0 7",
+        "index-write 5 +1 0 7",
+        "index-read 5",
+        "index-read 5 0",
+        "index-read 5 - -",
+        "index-add 5 - 1 0",
+        "index-add 5 - 1 0 7 1",
+        "index-add",
+        "index-find -",
+        "index-find 5",
+        "index-find - 1 ",
     ] {
         assert_eq!(said(row), "no row", "{:?}", row);
     }
@@ -78,7 +128,17 @@ fn a_byte_that_had_to_stay() {
     lent.room().copy_from_slice(b"abcde");
     assert_eq!(lent.answer(Ok(5)), "ok 6162636465");
     assert_eq!(lent.answer(Ok(4)), "touched");
-    assert_eq!(lent.answer(Err(Refusal { number: 8, line: 1, field: 0 })), "touched");
+    let refusal = Refusal { number: 8, line: 1, field: 0 };
+    assert_eq!(lent.answer(Err(refusal)), "touched");
+    let mut lent = Lent::with(b"abc", 10, 5);
+    assert_eq!(lent.answer(Err(refusal)), "refused 8 1 0");
+    assert_eq!(lent.answer(Ok(3)), "ok 616263");
+    lent.room()[4] = b'e';
+    assert_eq!(lent.answer(Ok(4)), "touched");
+    assert!(lent.answer(Ok(5)).starts_with("ok 616263"));
+    let mut lent = Lent::with(b"abc", 10, 2);
+    lent.room().copy_from_slice(b"ax");
+    assert_eq!(lent.answer(Err(refusal)), "touched");
 }
 
 /// Gives one byte at a time.

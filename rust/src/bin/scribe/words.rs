@@ -3,7 +3,7 @@
 use castanwel::numbers::Cell;
 use castanwel::Talker;
 
-/// The most bytes of a line or a group that a row has read.
+/// The most bytes of a line, a group or an index that a row has.
 pub const MOST: usize = 32768;
 
 /// A whole number of a row: a minus or none, and its size, 4294967295 where it is more.
@@ -87,6 +87,27 @@ pub fn talker(letters: &[u8]) -> Option<Talker> {
     Talker::ALL.iter().copied().find(|talker| talker.word().as_bytes() == letters)
 }
 
+/// The whole numbers of 64 bits of some words, digits alone.
+pub fn wide_numbers(words: &[&[u8]]) -> Option<Vec<u64>> {
+    words.iter().map(|word| wide_number(word)).collect()
+}
+
+/// The whole number of 64 bits of a word, digits alone.
+pub fn wide_number(word: &[u8]) -> Option<u64> {
+    if !word.iter().all(u8::is_ascii_digit) {
+        return None;
+    }
+    std::str::from_utf8(word).ok()?.parse().ok()
+}
+
+/// The bytes of a word that is `-` where there are none, at most so many.
+pub fn bytes_or_none(word: &[u8], most: usize) -> Option<Vec<u8>> {
+    match word {
+        b"-" => Some(Vec::new()),
+        digits => bytes(digits, most),
+    }
+}
+
 /// The bytes of hex digits, at most so many.
 pub fn bytes(digits: &[u8], most: usize) -> Option<Vec<u8>> {
     if digits.len() % 2 != 0 || digits.len() / 2 > most {
@@ -96,7 +117,10 @@ pub fn bytes(digits: &[u8], most: usize) -> Option<Vec<u8>> {
     digits.chunks(2).map(|pair| Some((digit(pair[0])? * 16 + digit(pair[1])?) as u8)).collect()
 }
 
-/// Bytes as hex digits.
+/// Bytes as hex digits; `-` where there are none.
 pub fn hex(bytes: &[u8]) -> String {
+    if bytes.is_empty() {
+        return "-".to_owned();
+    }
     bytes.iter().map(|byte| format!("{:02x}", byte)).collect()
 }
