@@ -5,6 +5,7 @@ use mathlib.Core.Path.{_≡_}
 use mathlib.Core.List.{List, [], _∷_, _++_}
 use mathlib.Core.Bool.{true, false}
 use lib.ListN.{length, getD, take, drop}
+use borrow.Author.Tests.{ne-eqb}
 use Rattle.digits.specs.Hex.{hexDigit}
 use Rattle.line.specs.Line.{lineRefusal, bodyOf, endOf, lineWith, asLine}
 use Rattle.line.proofs.Form as Form
@@ -59,6 +60,15 @@ use Rattle.claims.proofs.Commands as Commands
 use Rattle.claims.proofs.Replies as Replies
 use Rattle.claims.proofs.Rows as Rows
 use Rattle.claims.proofs.Rows.{rows, AllHold, rows-hold}
+use Rattle.sealing.specs.Written.{refused}
+use Rattle.sevens.specs.Sevens as Sevens
+use Rattle.sevens.proofs.Groups as Groups
+use Rattle.index.specs.Index as Index
+use Rattle.index.specs.Answers as Exhibit
+use Rattle.index.specs.declared.Entry as IndexEntry
+use Rattle.index.proofs.Promises as Promises
+use Rattle.index.proofs.Turns as IndexTurns
+use Rattle.host.specs.Index.{setAt}
 
 -- What the line rule accepts is `$`, a body of 1 to 76 allowed bytes, `*`, the two digits of its XOR, CR, LF ..
 pub line-accepted : (l : List ℕ) → lineRefusal l ≡ 0 → Form.Body (bodyOf l) × (l ≡ asLine (bodyOf l))
@@ -221,3 +231,97 @@ host-refusal-leaves = Host.refusal-leaves
 -- The worked rows hold of the definitions.
 pub worked-rows : AllHold rows
 worked-rows = rows-hold
+
+-- A number up to 4294967295 in groups of seven bits is taken as that number, whatever stands behind it ..
+pub sevens-back : (v : ℕ) (rest : List ℕ) → v ≤ Sevens.most → Sevens.takeSevens (Sevens.sevens v ++ rest) ≡ Sevens.value v rest
+sevens-back = Groups.sevens-back
+
+-- .. and what is taken as a number are its own groups: the shortest form only.
+pub sevens-only : (v : ℕ) (s rest : List ℕ) → Sevens.takeSevens s ≡ Sevens.value v rest → (s ≡ Sevens.sevens v ++ rest) × (v ≤ Sevens.most)
+sevens-only = Groups.sevens-only
+
+-- An index that was written reads back as the entries that were given ..
+pub index-back : (numbers out : List ℕ) → Exhibit.writtenIndex numbers (length out) .no ≡ 0
+    → Index.readIndex (take (Exhibit.writtenIndex numbers (length out) .length) (Exhibit.leftIndex numbers out)) ≡ Index.listed (Exhibit.entriesOf numbers)
+index-back = Promises.written-back
+
+-- .. bytes that read are the bytes of their entries, which are in range and order ..
+pub index-bytes : (s : List ℕ) (es : List IndexEntry.Entry) → Index.readIndex s ≡ Index.listed es
+    → (s ≡ Index.indexBytes es) × (Index.inOrder Index.origin es ≡ true)
+index-bytes = Promises.read-bytes
+
+-- .. and, written again, they are the same bytes ..
+pub index-same : (s out : List ℕ) (es : List IndexEntry.Entry) → Index.readIndex s ≡ Index.listed es → length s ≤ length out
+    → (Exhibit.writtenIndex (Exhibit.numbersOf es) (length out) ≡ wrote (length s))
+    × (Exhibit.leftIndex (Exhibit.numbersOf es) out ≡ s ++ drop (length s) out)
+index-same = Promises.read-written
+
+-- .. so lists of entries are equal exactly when their bytes are.
+pub index-equal : (es ds : List IndexEntry.Entry) → Index.inOrder Index.origin es ≡ true → Index.inOrder Index.origin ds ≡ true
+    → (Index.indexBytes es ≡ Index.indexBytes ds → es ≡ ds) × (es ≡ ds → Index.indexBytes es ≡ Index.indexBytes ds)
+index-equal = Promises.same-bytes
+
+-- Of an index, an exhibit's number is found where an entry has it, with that entry's offset and length ..
+pub index-found : (s : List ℕ) (es : List IndexEntry.Entry) → Index.readIndex s ≡ Index.listed es → (number : ℕ) (e : IndexEntry.Entry)
+    → Promises.Stands e es → e .number ≡ number → Exhibit.foundIn number (Index.readIndex s) ≡ Exhibit.finding 0 (e .offset) (e .length)
+index-found = Promises.found-entry
+
+-- .. only there ..
+pub index-found-entry : (s : List ℕ) (es : List IndexEntry.Entry) → Index.readIndex s ≡ Index.listed es → (number : ℕ)
+    → Exhibit.foundIn number (Index.readIndex s) .no ≡ 0 → (e : IndexEntry.Entry) × (Promises.Stands e es
+    × ((e .number ≡ number) × (Exhibit.foundIn number (Index.readIndex s) ≡ Exhibit.finding 0 (e .offset) (e .length))))
+index-found-entry = Promises.entry-found
+
+-- .. it is refused with 12 exactly where no entry has it ..
+pub index-not-found : (s : List ℕ) (es : List IndexEntry.Entry) → Index.readIndex s ≡ Index.listed es → (number : ℕ)
+    → ((e : IndexEntry.Entry) → Promises.Stands e es → e .number ≡ number → ⊥) → Exhibit.foundIn number (Index.readIndex s) ≡ Exhibit.finding 12 0 0
+index-not-found = Promises.none-found
+
+pub index-twelve : (s : List ℕ) (es : List IndexEntry.Entry) → Index.readIndex s ≡ Index.listed es → (number : ℕ)
+    → Exhibit.foundIn number (Index.readIndex s) .no ≡ 12 → (e : IndexEntry.Entry) → Promises.Stands e es → e .number ≡ number → ⊥
+index-twelve = Promises.twelve-none
+
+-- .. and with 11 exactly where the bytes are no index, whatever the number.
+pub index-eleven : (s : List ℕ) (number : ℕ)
+    → (Index.readIndex s ≡ Index.noIndex → Exhibit.foundIn number (Index.readIndex s) ≡ Exhibit.finding 11 0 0)
+    × (Exhibit.foundIn number (Index.readIndex s) .no ≡ 11 → Index.readIndex s ≡ Index.noIndex)
+index-eleven = Promises.eleven
+
+-- Numbers ascend: an entry that stands behind another has the greater number, so that 10 never stands before 2.
+pub index-ascending : (s : List ℕ) (front : List IndexEntry.Entry) (d e : IndexEntry.Entry) (es : List IndexEntry.Entry)
+    → Index.readIndex s ≡ Index.listed (front ++ (d ∷ es)) → Promises.Stands e es → d .number < e .number
+index-ascending = Promises.ascending
+
+-- What is added: the new bytes are the old and the entry's, and read as the old entries and the new one ..
+pub index-added : (buffer : List ℕ) (used : ℕ) (e : IndexEntry.Entry) → Exhibit.addedIndex buffer used e .no ≡ 0 → Promises.Added buffer used e
+index-added = Promises.added
+
+-- .. and 5 is given exactly where it does not fit behind the last.
+pub index-five : (buffer : List ℕ) (used : ℕ) (e : IndexEntry.Entry) (es : List IndexEntry.Entry) → used ≤ length buffer
+    → Index.readIndex (take used buffer) ≡ Index.listed es
+    → (Index.fits (Exhibit.lastOf Index.origin es) e ≡ false → Exhibit.addedIndex buffer used e ≡ refused 5 0 0)
+    × (Exhibit.addedIndex buffer used e .no ≡ 5 → Index.fits (Exhibit.lastOf Index.origin es) e ≡ false)
+index-five = Promises.five-unfit
+
+-- Reading in turns is reading the whole: the whole entries of some bytes, then the bytes kept with those that come.
+pub index-turns : {before last : IndexEntry.Entry} {s kept : List ℕ} {es : List IndexEntry.Entry} → IndexTurns.Begins before s es last kept
+    → (t : List ℕ) → Index.readFrom before (s ++ t) ≡ IndexTurns.ontoAll es (Index.readFrom last (kept ++ t))
+index-turns = IndexTurns.turns
+
+-- No bytes that come mend bytes that no entry begins with.
+pub index-bad-stays : (before : IndexEntry.Entry) (s t : List ℕ) → Index.entryOf before s ≡ Index.bad → Index.readFrom before (s ++ t) ≡ Index.noIndex
+index-bad-stays = IndexTurns.bad-stays
+
+-- A refusal of the index leaves every lent byte and number, and the places for its answer.
+pub index-write-leaves : (numbers out : List ℕ) → (Exhibit.writtenIndex numbers (length out) .no ≡ 0 → ⊥) → Exhibit.leftIndex numbers out ≡ out
+index-write-leaves = Promises.write-leaves
+
+pub index-read-leaves : (s out : List ℕ) → (Exhibit.listedFor (Index.readIndex s) (length out) .no ≡ 0 → ⊥) → Exhibit.laidFor (Index.readIndex s) out ≡ out
+index-read-leaves = Promises.read-leaves
+
+pub index-add-leaves : (buffer : List ℕ) (used : ℕ) (e : IndexEntry.Entry) → (Exhibit.addedIndex buffer used e .no ≡ 0 → ⊥)
+    → Exhibit.leftAdded buffer used e ≡ buffer
+index-add-leaves = Promises.add-leaves
+
+pub index-place-left : (n value stood : ℕ) → (n ≡ 0 → ⊥) → setAt n value stood ≡ stood
+index-place-left n value stood h = rw (ne-eqb n 0 h)

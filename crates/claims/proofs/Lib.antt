@@ -16,3 +16,4 @@ pub mod Replies
 pub mod Faultless
 pub mod DeterminedReceiver
 pub mod DeterminedHost
+pub mod DeterminedIndex

@@ -43,6 +43,10 @@ use Rattle.records.specs.Wrong.{nearOf, firstWrong}
 use Rattle.satellites.specs.View.{firstOf, entryAt, entryFrom, entryForm, entriesOf, gsvFrom, gsvWith, gsvOf}
 use Rattle.reading.specs.Lines.{readBody, readLine}
 use Rattle.sky.specs.Group.{Answer, whole, refused, linesFor, entriesAt, sameTalker, inPlace, follows, numbered, repeats, gsvRule, rule, ended, groupOf}
+use Rattle.sevens.specs.Sevens.{groups, sevens, takeGroups, takeSevens}
+use Rattle.sevens.specs.Sevens as Sevens
+use Rattle.index.specs.Index.{fits, lengthOf, skipOf, entryOf, Listing, listed, noIndex, turnsFrom, readIndex}
+use Rattle.index.specs.Index.{readFrom as indexFrom}
 
 -- What a row says.
 pub data Row : Type 0 where
@@ -63,6 +67,12 @@ pub data Row : Type 0 where
   allows : String → ℕ → ℕ → Row
   -- of which this one is not one, counted from 1
   without : String → ℕ → Row
+  -- this number in groups of seven bits is these bytes
+  grouped : ℕ → List ℕ → Row
+  -- these bytes begin with no number
+  ungrouped : List ℕ → Row
+  -- these bytes, as an index, come to this
+  index : List ℕ → Listing → Row
 
 pub rows : List Row
 rows =
@@ -97,6 +107,14 @@ rows =
     -- P11: no bytes
     ∷ line "" 1
     ∷ group "" (refused 1 1 0)
+    -- 300 is AC 02; 80 00 is not the shortest form of 0
+    ∷ grouped 300 (172 ∷ 2 ∷ [])
+    ∷ ungrouped (128 ∷ 0 ∷ [])
+    -- exhibit 2, of 70 bytes from byte 0 on, and exhibit 10 behind it; a gap of 0; no bytes
+    ∷ index (2 ∷ 0 ∷ 70 ∷ 8 ∷ 0 ∷ 70 ∷ [])
+    (listed (record { number = 2; offset = 0; length = 70 } ∷ record { number = 10; offset = 70; length = 70 } ∷ []))
+    ∷ index (0 ∷ 0 ∷ 70 ∷ []) noIndex
+    ∷ index [] (listed [])
     ∷ []
 
 -- What a receiver at start makes of a command.
@@ -120,6 +138,9 @@ Holds (date f r) = dateSix (ascii f) ≡ r
 Holds (group text a) = groupOf (ascii text) ≡ a
 Holds (reply text answer) = toldBy (commanded text) ≡ ascii answer
 Holds (allows text gps glonass) = (ones (leftBy (commanded text) .gps) ≡ gps) × (ones (leftBy (commanded text) .glonass) ≡ glonass)
+Holds (grouped n bytes) = (sevens n ≡ bytes) × (takeSevens bytes ≡ Sevens.value n [])
+Holds (ungrouped bytes) = takeSevens bytes ≡ Sevens.bad
+Holds (index bytes x) = readIndex bytes ≡ x
 Holds (without text k) = leftBy (commanded text) .gps / 2 ^ (k - 1) % 2 ≡ 0
 
 abbrev pub AllHold : List Row → Type 0
@@ -136,8 +157,8 @@ ones-by zero n = refl
 ones-by (suc k) n = ones-step n ∙ ap (λ (x : ℕ). n % 2 + x) (ones-by k (n / 2))
 
 pub rows-hold : AllHold rows
-unfolding rows same hexDigit hexOf noneOf bodyByte bodyBytes xorFrom xorOf endForm lineForm endGives lineRefusal isDigit digitsFrom digitsOf withinOf joinedOf angleOf latitudeOf longitudeOf letteredOf sidedOf pairAt leapYear daysIn isDate dateAt fullYear dateSix minus bareOf zoneOf zoneAt zoneTwo bind lookUp knownOf commaFree addressOf onto fieldsOf fixedOf maybeOf before cutRest cutLines readFrom readLines answeredBeside nearOf firstWrong firstOf entryAt entryFrom entryForm entriesOf gsvFrom gsvWith gsvOf readBody readLine linesFor entriesAt sameTalker inPlace follows numbered repeats gsvRule rule ended groupOf joinFields hexFrom hexDigitsOf printHex satellitesOf satellitesForm isPortMask emptyWrong outside rangeWrong signedWrong portWrong pirsrFrom pirsrOf pirsaFields portGood settingsGood outcomeOf answered counted hexValue ones onesIn commanded
-rows-hold = (refl, (refl, (refl, (refl, (refl, (refl, (refl, (refl, (refl, (refl, (refl, (refl, (refl, (refl, (refl, (refl, ((ones-by 32 2147418111, ones-by 24 16777214), (refl, (refl, (refl, tt))))))))))))))))))))
+unfolding rows same hexDigit hexOf noneOf bodyByte bodyBytes xorFrom xorOf endForm lineForm endGives lineRefusal isDigit digitsFrom digitsOf withinOf joinedOf angleOf latitudeOf longitudeOf letteredOf sidedOf pairAt leapYear daysIn isDate dateAt fullYear dateSix minus bareOf zoneOf zoneAt zoneTwo bind lookUp knownOf commaFree addressOf onto fieldsOf fixedOf maybeOf before cutRest cutLines readFrom readLines answeredBeside nearOf firstWrong firstOf entryAt entryFrom entryForm entriesOf gsvFrom gsvWith gsvOf readBody readLine linesFor entriesAt sameTalker inPlace follows numbered repeats gsvRule rule ended groupOf joinFields hexFrom hexDigitsOf printHex satellitesOf satellitesForm isPortMask emptyWrong outside rangeWrong signedWrong portWrong pirsrFrom pirsrOf pirsaFields portGood settingsGood outcomeOf answered counted hexValue ones onesIn commanded groups sevens takeGroups takeSevens fits lengthOf skipOf entryOf turnsFrom indexFrom
+rows-hold = (refl, (refl, (refl, (refl, (refl, (refl, (refl, (refl, (refl, (refl, (refl, (refl, (refl, (refl, (refl, (refl, ((ones-by 32 2147418111, ones-by 24 16777214), (refl, (refl, (refl, ((refl, refl), (refl, (refl, (refl, (refl, tt)))))))))))))))))))))))))
 
 -- A step that replies and alters nothing is not the step: row P10 leaves another mask than the one at start.
 pub step-alters : ((s : Settings) (p : ℕ) (l : List ℕ) (room : ℕ) → settingsAfter s (outcomeOf s p l) room ≡ s) → ⊥

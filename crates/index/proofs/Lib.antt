@@ -7,3 +7,6 @@ pub mod Scanning
 pub mod Storing
 pub mod Planning
 pub mod Answering
+pub mod Lists
+pub mod Turns
+pub mod Promises
