@@ -14,7 +14,7 @@ use Rattle.sealing.specs.declared.Written.{Written}
 use Rattle.sealing.specs.Written.{refused, wrote}
 use Rattle.index.specs.declared.Entry.{Entry}
 use Rattle.index.specs.declared.reading.Listed.{Listed}
-use Rattle.index.specs.declared.Scanned.{Scanned}
+use Rattle.index.specs.declared.reading.Scanned.{Scanned}
 use Rattle.index.specs.Index.{origin, fits, entryBytes, indexBytes, Listing, listed, noIndex, readIndex, pick}
 use Rattle.index.specs.Answers.{numbersOf, entriesOf, entriesIn, areEntries, writtenIndex, leftIndex, listing, listedFor, laidFor, lastOf, addedTo, addedIndex, grownBy, leftAdded}
 use Rattle.index.specs.Places.{scanOf}

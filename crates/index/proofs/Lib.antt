@@ -10,3 +10,4 @@ pub mod Answering
 pub mod Lists
 pub mod Turns
 pub mod Promises
+pub mod Walking

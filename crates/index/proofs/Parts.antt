@@ -4,15 +4,15 @@ use mathlib.Core.Path.{_≡_, refl, sym, ap, _∙_}
 use mathlib.Core.Bool.{Bool, true, false}
 use mathlib.Core.List.{List}
 use native.Mathlib.Omega.{arith}
-use lib.ListN.{length, drop, length-drop}
+use lib.ListN.{length, getD, drop, length-drop}
 use Rattle.sevens.specs.Sevens.{takeSevens}
 use Rattle.sevens.specs.Sevens as S
-use Rattle.sevens.proofs.Taking.{TakenUp}
+use Rattle.sevens.proofs.Taking.{TakenUp, taken-small}
 use Rattle.index.specs.declared.Entry.{Entry}
 use Rattle.index.specs.declared.Next.{Next}
 use Rattle.index.specs.declared.Next.the-variants as N
 use Rattle.index.specs.Index.{Head, entry, short, bad, pick, fits, entryBehind, lengthOf, skipOf, entryOf}
-use Rattle.index.specs.Places.{nextAt}
+use Rattle.index.specs.Places.{nextAt, Near}
 
 picked : (n : ℕ) (t : Bool) (e : Entry) (rest : List ℕ) (a : ℕ) → a ≡ n - length rest
     → pick t (N.Is e a) N.Bad ≡ nextAt n (pick t (entry e rest) bad)
@@ -58,3 +58,17 @@ module _ (s : List ℕ) (at : ℕ) (last : Entry) where
   pub gap-bad : takeSevens (drop at s) ≡ S.bad → N.Bad ≡ nextAt (length s) (entryOf last (drop at s))
   unfolding entryOf
   gap-bad e = rw e
+
+-- Three bytes that are a number each make an entry at once.
+pub near-is : (s : List ℕ) (at : ℕ) (last : Entry) → Near s at
+    → pick (fits last (entryBehind last (getD s at 0) (getD s (at + 1) 0) (getD s (at + 2) 0)))
+    (N.Is (entryBehind last (getD s at 0) (getD s (at + 1) 0) (getD s (at + 2) 0)) (at + 3)) N.Bad
+    ≡ nextAt (length s) (entryOf last (drop at s))
+near-is s at last n =
+    let first = taken-small s at (omega (arith, n .inside)) (n .first) in
+    let two : at + 1 + 1 ≡ at + 2 = omega arith in
+    let second : TakenUp s (at + 1) (getD s (at + 1) 0) (at + 2) = rw two at (taken-small s (at + 1) (omega (arith, n .inside)) (n .second)) in
+    let three : at + 2 + 1 ≡ at + 3 = omega arith in
+    let third : TakenUp s (at + 2) (getD s (at + 2) 0) (at + 3) = rw three at (taken-small s (at + 2) (omega (arith, n .inside)) (n .third)) in
+    length-value s (at + 2) last (getD s at 0) (getD s (at + 1) 0) (getD s (at + 2) 0) (at + 3) third
+    ∙ ap (nextAt (length s)) (skip-value s (at + 1) last (getD s at 0) (getD s (at + 1) 0) (at + 2) second ∙ gap-value s at last (getD s at 0) (at + 1) first)

@@ -13,6 +13,10 @@ use Rattle.index.specs.Places.{nextAt}
 use Rattle.index.proofs.Back.{entry-only, entry-some}
 use Rattle.index.proofs.ReadLaws.{read-none, read-next, read-short, read-bad}
 
+-- An entry by its three numbers.
+abbrev pub by : ℕ → ℕ → ℕ → Entry
+by number offset size = record { number = number; offset = offset; length = size }
+
 pub record Entered (s : List ℕ) (at : ℕ) (last e : Entry) (p : ℕ) : Type 0 where
   pub reads : readFrom last (drop at s) ≡ onto e (readFrom e (drop p s))
   pub on : at < p

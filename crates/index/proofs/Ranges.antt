@@ -1,20 +1,19 @@
 -- What fits behind an entry: the tests taken apart and put together again, and the tests that the code makes without a sum that could wrap.
 use Prim.Native.Nat.{ℕ, _+_, _-_, _≤_, _<_}
 use mathlib.Core.Path.{_≡_, refl, sym, ap, _∙_}
-use mathlib.Core.Bool.{Bool, true, false, _&&_}
+use mathlib.Core.Bool.{Bool, true, false, _&&_, _||_}
+use mathlib.Core.List.{List, [], _∷_, _++_}
 use native.Mathlib.Omega.{arith}
 use lib.Dec.{ltb, leb}
 use borrow.Author.Tests.{lt-ltb, le-ltb, le-leb, lt-leb, ltb-true, ltb-false, leb-true, leb-false}
-use Rattle.digits.proofs.Bools.{and-left, and-right}
+use Rattle.digits.proofs.Bools.{and-left, and-right, true-false}
 use Rattle.sevens.specs.Sevens.{most}
+use Rattle.sevens.proofs.Groups.{sevens-small}
 use Rattle.index.specs.declared.Entry.{Entry}
 use Rattle.index.specs.declared.Next.the-variants as N
-use Rattle.index.specs.Index.{endOf, fits, pick, entryBehind}
+use Rattle.index.specs.Index.{endOf, fits, entryBytes, pick, entryBehind}
 
 -- A sum against a limit, tested by a difference.
-pub sum-over : (a b m : ℕ) → m < a → false ≡ leb (a + b) m
-sum-over a b m h = sym (lt-leb (a + b) m (omega arith))
-
 pub sum-within : (a b m : ℕ) → a ≤ m → leb b (m - a) ≡ leb (a + b) m
 sum-within a b m h = go (leb b (m - a)) refl
   where
@@ -59,24 +58,75 @@ not-fits before e n = go (fits before e) refl
     go true f = absurd (n (fits-is before e f))
     go false f = refl
 
--- Behind an entry whose number or end is too large nothing fits.
+-- Three numbers within the limit, tested at once.
+pub all-low : (a b c : ℕ) → ltb most a || (ltb most b || ltb most c) ≡ false → (a ≤ most) × ((b ≤ most) × (c ≤ most))
+all-low a b c e = go (ltb most a) refl (ltb most b) refl (ltb most c) refl e
+  where
+    go : (x : Bool) → ltb most a ≡ x → (y : Bool) → ltb most b ≡ y → (z : Bool) → ltb most c ≡ z → x || (y || z) ≡ false
+        → (a ≤ most) × ((b ≤ most) × (c ≤ most))
+    go false f false g false h e = (ltb-false most a f, (ltb-false most b g, ltb-false most c h))
+    go false f false g true h e = let n : _≡_ {A = ℕ} 0 1 = cc in let w : ⊥ = omega arith in absurd w
+    go false f true g z h e = let n : _≡_ {A = ℕ} 0 1 = cc in let w : ⊥ = omega arith in absurd w
+    go true f y g z h e = let n : _≡_ {A = ℕ} 0 1 = cc in let w : ⊥ = omega arith in absurd w
+
+pub some-high : (a b c : ℕ) → ltb most a || (ltb most b || ltb most c) ≡ true → a ≤ most → b ≤ most → c ≤ most → ⊥
+some-high a b c e i j k =
+    let none : ltb most a || (ltb most b || ltb most c) ≡ false = rw (le-ltb most a i, le-ltb most b j, le-ltb most c k) in
+    true-false e none
+
+-- Behind an entry that lies too high nothing fits, and nothing that lies too high fits.
+pub fits-high : (before e : Entry) → ltb most (before .offset) || (ltb most (before .length) || ltb most (e .offset)) ≡ true → false ≡ fits before e
+fits-high before e h =
+    sym (not-fits before e (λ f. some-high (before .offset) (before .length) (e .offset) h (omega (arith, f .behind, f .ends)) (omega (arith, f .behind, f .ends)) (omega (arith, f .ends))))
+
+pub fits-low : (before e : Entry) → e .offset ≤ most
+    → (ltb (before .number) (e .number)
+    && (leb (e .number) most
+    && (leb (endOf before) (e .offset)
+    && (leb 7 (e .length)
+    && (leb (e .length) 82
+    && leb (e .length) (most - e .offset)))))) ≡ fits before e
+unfolding fits
+fits-low before e h = rw (sum-within (e .offset) (e .length) most h)
+
+-- The entry that three numbers make.
 module _ (before : Entry) (gap skip size at : ℕ) where
-  pub number-over : most < before .number
-      → N.Bad ≡ pick (fits before (entryBehind before gap skip size)) (N.Is (entryBehind before gap skip size) at) N.Bad
-  number-over h = rw (not-fits before (entryBehind before gap skip size) (λ f. omega (arith, f .number)))
+  made-test : fits before (entryBehind before gap skip size)
+      ≡ (ltb 0 gap && (leb (before .number + gap) most && (leb 7 size && (leb size 82 && leb (endOf before + skip + size) most))))
+  unfolding fits
+  made-test = rw (more (before .number) gap, le-leb (endOf before) (endOf before + skip) (omega arith))
+    where
+      more : (n k : ℕ) → ltb n (n + k) ≡ ltb 0 k
+      more n k = go (ltb 0 k) refl
+        where
+          go : (t : Bool) → ltb 0 k ≡ t → ltb n (n + k) ≡ t
+          go true e = lt-ltb n (n + k) (omega (arith, ltb-true 0 k e))
+          go false e = le-ltb n (n + k) (omega (arith, ltb-false 0 k e))
 
-  pub end-over : leb (endOf before) most ≡ false
+  pub made-high : ltb most (before .number) || (ltb most (before .offset) || ltb most (before .length)) ≡ true
       → N.Bad ≡ pick (fits before (entryBehind before gap skip size)) (N.Is (entryBehind before gap skip size) at) N.Bad
-  end-over h = rw (not-fits before (entryBehind before gap skip size) (λ f. omega (arith, f .behind, f .ends, leb-false (endOf before) most h)))
+  made-high h =
+      rw (not-fits before (entryBehind before gap skip size) (λ f. some-high (before .number) (before .offset) (before .length) h (omega (arith, f .number)) (omega (arith, f .ends)) (omega (arith, f .ends))))
 
-  pub made-fits : fits before (entryBehind before gap skip size) ≡ true
+  pub made-fits : (ltb 0 gap && (leb (before .number + gap) most && (leb 7 size && (leb size 82 && leb (endOf before + skip + size) most)))) ≡ true
       → N.Is (entryBehind before gap skip size) at ≡ pick (fits before (entryBehind before gap skip size)) (N.Is (entryBehind before gap skip size) at) N.Bad
-  made-fits h = rw h
+  made-fits h = rw (made-test ∙ h)
 
-  pub made-not : fits before (entryBehind before gap skip size) ≡ false
+  pub made-not : (ltb 0 gap && (leb (before .number + gap) most && (leb 7 size && (leb size 82 && leb (endOf before + skip + size) most)))) ≡ false
       → N.Bad ≡ pick (fits before (entryBehind before gap skip size)) (N.Is (entryBehind before gap skip size) at) N.Bad
-  made-not h = rw h
+  made-not h = rw (made-test ∙ h)
 
 -- The gap from the end of the line before, taken away in two steps.
-pub skip-is : (e before : Entry) → e .offset - before .offset - before .length ≡ e .offset - endOf before
-skip-is e before = omega arith
+pub skip-is : (e before : Entry) {a b : ℕ} → a ≡ e .offset - before .offset → b ≡ a - before .length → b ≡ e .offset - endOf before
+skip-is e before p q = omega arith
+
+-- An entry whose three numbers take a byte each.
+pub three-small : (before e : Entry) (gap skip : ℕ) → gap ≡ e .number - before .number → skip ≡ e .offset - endOf before
+    → gap < 128 → skip < 128 → e .length < 128 → gap ∷ (skip ∷ (e .length ∷ [])) ≡ entryBytes before e
+unfolding entryBytes
+three-small before e gap skip g s i j k = rw (← g, ← s, sevens-small gap i, sevens-small skip j, sevens-small (e .length) k)
+
+pub small-three : (a b c : ℕ) → ltb a 128 && (ltb b 128 && ltb c 128) ≡ true → (a < 128) × ((b < 128) × (c < 128))
+small-three a b c e =
+    let f = and-right (ltb a 128) _ e in
+    (ltb-true _ _ (and-left _ _ e), (ltb-true _ _ (and-left _ _ f), ltb-true _ _ (and-right (ltb b 128) _ f)))

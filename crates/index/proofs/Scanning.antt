@@ -10,7 +10,7 @@ use lib.ListN.{length}
 use borrow.Author.Tests.{ne-eqb, eqb-true}
 use Rattle.index.specs.declared.Entry.{Entry}
 use Rattle.index.specs.declared.reading.Found.{Found}
-use Rattle.index.specs.declared.Scanned.{Scanned}
+use Rattle.index.specs.declared.reading.Scanned.{Scanned}
 use Rattle.index.specs.Index.{origin, Listing, listed, noIndex, onto, pick}
 use Rattle.index.specs.Answers.{lastOf, finding, findIn, foundIn, bestOf}
 use Rattle.index.specs.Places.{scanOf}

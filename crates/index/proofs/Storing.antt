@@ -4,14 +4,29 @@ use mathlib.Core.Path.{_≡_, refl, sym, ap, _∙_}
 use mathlib.Core.List.{List, [], _∷_, _++_}
 use native.Mathlib.Omega.{arith}
 use native.Mathlib.Numerals.{add-one}
-use lib.ListN.{length, getD, drop, drop-of-length-le, length-drop}
+use lib.ListN.{length, getD, set, drop, length-drop, length-set}
 use lib.Seq.{drop-cons}
 use Rattle.put.specs.Wrote.{Held, held, wrote, Puts}
-use Rattle.put.proofs.Chain.{wrote-append}
+use Rattle.put.proofs.Chain.{wrote-append, put-room, put-full, _⨾_}
 use Rattle.index.specs.declared.Entry.{Entry}
 use Rattle.index.specs.Index.{origin, entryBytes, bytesFrom, Listing, listed, noIndex, onto, readFrom, readIndex}
 use Rattle.index.specs.Answers.{numbersOf, entriesOf, entriesIn, threeAt}
 use Rattle.index.proofs.Places.{Entered}
+
+-- Three numbers stored where there is room for all of them.
+pub three-room : (p a b c : ℕ) (d : List ℕ) → p + 3 ≤ length d
+    → Puts (held p d) (a ∷ (b ∷ (c ∷ []))) (held (p + 3) (set (set (set d p a) (p + 1) b) (p + 2) c))
+three-room p a b c d h =
+    let one : p + 1 + 1 ≡ p + 2 = omega arith in
+    let two : p + 2 + 1 ≡ p + 3 = omega arith in
+    let second : p + 1 < length (set d p a) = rw (length-set d p a) (omega arith) in
+    let third : p + 2 < length (set (set d p a) (p + 1) b) = rw (length-set (set d p a) (p + 1) b, length-set d p a) (omega arith) in
+    let put-b = rw one at (put-room (p + 1) (set d p a) b second) in
+    let put-c = rw two at (put-room (p + 2) (set (set d p a) (p + 1) b) c third) in
+    put-room p d a (omega arith) ⨾ put-b ⨾ put-c
+
+pub three-full : (p a b c : ℕ) (d : List ℕ) → length d ≤ p → Puts (held p d) (a ∷ (b ∷ (c ∷ []))) (held p d)
+three-full p a b c d h = put-full p d a h ⨾ put-full p d b h ⨾ put-full p d c h
 
 -- The entries from the place on, whose numbers are still to be stored.
 pub record Storing (s out₀ out : List ℕ) (place : ℕ) (last : Entry) (at : ℕ) : Type 0 where

@@ -4,14 +4,14 @@ pub mod writing;
 
 use sevens::Taken;
 ghost use mathlib.Core.Path.{_≡_};
-ghost use Prim.Native.Nat.{_-_, _≤_};
-ghost use lib.Dec.{leb};
+ghost use mathlib.Core.Bool;
+ghost use mathlib.Core.List.{[], _∷_};
+ghost use Prim.Native.Nat.{_-_, _≤_, _<_};
 ghost use lib.ListN.{length, drop};
 ghost use Rattle.sevens.specs.Sevens.{most};
 ghost use Rattle.put.specs.Wrote.{held, Puts};
-ghost use Rattle.index.specs.Index.{origin, endOf, fits, entryBytes, pick, entryBehind, entryOf, skipOf, lengthOf};
-ghost use Rattle.index.specs.Index.{noIndex, readIndex};
-ghost use Rattle.index.specs.Places.{nextAt, scanOf};
+ghost use Rattle.index.specs.Index.{origin, fits, entryBytes, pick, entryBehind, entryOf, skipOf, lengthOf};
+ghost use Rattle.index.specs.Places.{nextAt, Near};
 ghost use Rattle.index.specs.declared.Next.the-variants as N;
 
 // An exhibit's number, the byte offset of its line in the log, and the line's length.
@@ -32,33 +32,17 @@ pub fn origin() -> Entry
     }
 }
 
-// Whether a line that starts at `offset` starts where the line of `last` has ended, or later.
-fn is_behind(last: Entry, offset: u64) -> bool
-    ensures { λ r. ⌜ r ≡ leb (endOf last) offset ⌝ }
-{
-    if offset < last.offset {
-        return false;
-    }
-    last.length <= offset - last.offset
-}
-
-// Whether a line ends within what an offset can say.
-fn ends_within(e: Entry) -> bool
-    ensures { λ r. ⌜ r ≡ leb (endOf e) most ⌝ }
-{
-    if 4294967295 < e.offset {
-        return false;
-    }
-    e.length <= 4294967295 - e.offset
-}
-
 // Whether `e` is in range, and in order behind the entry `last`.
 pub fn fits(last: Entry, e: Entry) -> bool
     ensures { λ r. ⌜ r ≡ fits last e ⌝ }
 {
+    if (4294967295 < last.offset) | ((4294967295 < last.length) | (4294967295 < e.offset)) {
+        return false;
+    }
     (last.number < e.number)
         & ((e.number <= 4294967295)
-            & (is_behind(last, e.offset) & ((7 <= e.length) & ((e.length <= 82) & ends_within(e)))))
+            & ((last.offset + last.length <= e.offset)
+                & ((7 <= e.length) & ((e.length <= 82) & (e.length <= 4294967295 - e.offset)))))
 }
 
 // `a` less `b`, or 0 where `b` is more.
@@ -71,12 +55,35 @@ fn less(a: u64, b: u64) -> u64
     0
 }
 
+// Puts three numbers of one byte each.
+fn put_three(out: &mut [u8], at: usize, gap: u64, skip: u64, length: u64) -> usize
+    requires { ⌜ (gap < 128) × ((skip < 128) × (length < 128)) ⌝ }
+    ensures { λ r. ⌜ Puts (held at (now (out .entry))) (gap ∷ (skip ∷ (length ∷ []))) (held r (now (out .exit))) ⌝ }
+{
+    if 3 <= out.len() {
+        if at <= out.len() - 3 {
+            out[at] = gap as u8;
+            out[at + 1] = skip as u8;
+            out[at + 2] = length as u8;
+            return at + 3;
+        }
+    }
+    let a0 = put::put(out, at, gap as u8);
+    let a1 = put::put(out, a0, skip as u8);
+    put::put(out, a1, length as u8)
+}
+
 // Puts the bytes of `e` behind the entry `last`, as each put does.
 pub fn put_entry(out: &mut [u8], at: usize, last: Entry, e: Entry) -> usize
     ensures { λ r. ⌜ Puts (held at (now (out .entry))) (entryBytes last e) (held r (now (out .exit))) ⌝ }
 {
-    let a0 = sevens::put(out, at, less(e.number, last.number));
-    let a1 = sevens::put(out, a0, less(less(e.offset, last.offset), last.length));
+    let gap = less(e.number, last.number);
+    let skip = less(less(e.offset, last.offset), last.length);
+    if (gap < 128) & ((skip < 128) & (e.length < 128)) {
+        return put_three(out, at, gap, skip, e.length);
+    }
+    let a0 = sevens::put(out, at, gap);
+    let a1 = sevens::put(out, a0, skip);
     sevens::put(out, a1, e.length)
 }
 
@@ -84,9 +91,12 @@ pub fn put_entry(out: &mut [u8], at: usize, last: Entry, e: Entry) -> usize
 fn size(last: Entry, e: Entry) -> usize
     ensures { λ r. ⌜ r ≡ length (entryBytes last e) ⌝ }
 {
-    let gap = sevens::size(less(e.number, last.number));
-    let skip = sevens::size(less(less(e.offset, last.offset), last.length));
-    gap + (skip + sevens::size(e.length))
+    let gap = less(e.number, last.number);
+    let skip = less(less(e.offset, last.offset), last.length);
+    if (gap < 128) & ((skip < 128) & (e.length < 128)) {
+        return 3;
+    }
+    sevens::size(gap) + (sevens::size(skip) + sevens::size(e.length))
 }
 
 // What stands at a place behind an entry: the next entry, and the place behind it; an entry whose bytes end too soon,
@@ -99,22 +109,26 @@ pub enum Next {
 
 // The entry that three numbers make behind `last`, where it fits, and the place `at` behind it.
 fn made(last: Entry, gap: u64, skip: u64, length: u64, at: usize) -> Next
-    requires { ⌜ (gap ≤ most) × (skip ≤ most) ⌝ }
+    requires { ⌜ (gap ≤ most) × ((skip ≤ most) × (length ≤ most)) ⌝ }
     ensures { λ r. ⌜ r ≡ pick (fits last (entryBehind last gap skip length)) (N.Is (entryBehind last gap skip length) at) N.Bad ⌝ }
 {
-    if 4294967295 < last.number {
+    if (4294967295 < last.number) | ((4294967295 < last.offset) | (4294967295 < last.length)) {
         return Next::Bad;
     }
-    if !ends_within(last) {
-        return Next::Bad;
-    }
-    let e = Entry {
-        number: last.number + gap,
-        offset: last.offset + last.length + skip,
-        length,
-    };
-    if fits(last, e) {
-        return Next::Is(e, at);
+    let number = last.number + gap;
+    let offset = last.offset + last.length + skip;
+    if (0 < gap)
+        & ((number <= 4294967295)
+            & ((7 <= length) & ((length <= 82) & (offset + length <= 4294967295))))
+    {
+        return Next::Is(
+            Entry {
+                number,
+                offset,
+                length,
+            },
+            at,
+        );
     }
     Next::Bad
 }
@@ -145,8 +159,8 @@ fn with_skip(s: &[u8], at: usize, last: Entry, gap: u64) -> Next
     }
 }
 
-// The entry that stands at `at`, behind the entry `last`.
-pub fn entry_at(s: &[u8], at: usize, last: Entry) -> Next
+// The entry that stands at `at`, behind the entry `last`, number by number.
+fn longer(s: &[u8], at: usize, last: Entry) -> Next
     ensures { λ r. ⌜ r ≡ nextAt (length (now (s .entry))) (entryOf last (drop at (now (s .entry)))) ⌝ }
 {
     let gap = sevens::take(s, at);
@@ -157,45 +171,31 @@ pub fn entry_at(s: &[u8], at: usize, last: Entry) -> Next
     }
 }
 
-// What going over an index once gives: whether it is one, how many entries it has, and the last of them.
-pub struct Scanned {
-    pub whole: bool,
-    pub count: usize,
-    pub last: Entry,
+// Whether three bytes stand at `at` that are a number each.
+fn is_near(s: &[u8], at: usize) -> bool
+    ensures { λ r. ⌜ (r ≡ Bool.true → Near (now (s .entry)) at) ⌝ }
+{
+    if s.len() < 3 {
+        return false;
+    }
+    if s.len() - 3 < at {
+        return false;
+    }
+    (s[at] < 128) & ((s[at + 1] < 128) & (s[at + 2] < 128))
 }
 
-fn no_index() -> Scanned
-    ensures { λ r. ⌜ r ≡ scanOf noIndex ⌝ }
+// The entry that stands at `at`, behind the entry `last`. One of three bytes is made at once.
+pub fn entry_at(s: &[u8], at: usize, last: Entry) -> Next
+    ensures { λ r. ⌜ r ≡ nextAt (length (now (s .entry))) (entryOf last (drop at (now (s .entry)))) ⌝ }
 {
-    Scanned {
-        whole: false,
-        count: 0,
-        last: origin(),
+    if is_near(s, at) {
+        return made(
+            last,
+            s[at] as u64,
+            s[at + 1] as u64,
+            s[at + 2] as u64,
+            at + 3,
+        );
     }
-}
-
-// Goes over the index in `s`.
-pub fn scan(s: &[u8]) -> Scanned
-    ensures { λ r. ⌜ r ≡ scanOf (readIndex (now (s .entry))) ⌝ }
-{
-    let mut last = origin();
-    let mut at: usize = 0;
-    let mut count: usize = 0;
-    while at < s.len() {
-        let next = entry_at(s, at, last);
-        match next {
-            Next::Is(e, a) => {
-                last = e;
-                at = a;
-                count += 1;
-            }
-            Next::Short => return no_index(),
-            Next::Bad => return no_index(),
-        }
-    }
-    Scanned {
-        whole: true,
-        count,
-        last,
-    }
+    longer(s, at, last)
 }

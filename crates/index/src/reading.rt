@@ -5,8 +5,9 @@ ghost use mathlib.Core.Path.{_≡_};
 ghost use mathlib.Core.List.{[], _∷_};
 ghost use lib.ListN.{length};
 ghost use Rattle.put.specs.Wrote.{held, Puts};
-ghost use Rattle.index.specs.Index.{listed, readIndex};
-ghost use Rattle.index.specs.Answers.{numbersOf, entriesIn, listing, listedFor, laidFor, finding, bestOf, foundIn};
+ghost use Rattle.index.specs.Index.{noIndex, readIndex};
+ghost use Rattle.index.specs.Answers.{numbersOf, listing, listedFor, laidFor, finding, bestOf, foundIn};
+ghost use Rattle.index.specs.Places.{scanOf, Walks};
 
 // What reading an index answers: how many entries it has; or the number of the refusal, and then count 0.
 pub struct Listed {
@@ -42,32 +43,20 @@ fn store(out: &mut [u64], at: usize, v: u64) -> usize
 fn store_entry(out: &mut [u64], at: usize, e: Entry) -> usize
     ensures { λ r. ⌜ Puts (held at (now (out .entry))) (numbersOf (e ∷ [])) (held r (now (out .exit))) ⌝ }
 {
+    if out.len() <= at {
+        return at;
+    }
+    if 3 <= out.len() {
+        if at <= out.len() - 3 {
+            out[at] = e.number;
+            out[at + 1] = e.offset;
+            out[at + 2] = e.length;
+            return at + 3;
+        }
+    }
     let a0 = store(out, at, e.number);
     let a1 = store(out, a0, e.offset);
     store(out, a1, e.length)
-}
-
-// Puts the numbers of all entries of the index in `s` at the start of `out`.
-fn store_all(s: &[u8], out: &mut [u64]) -> usize
-    requires { ⌜ readIndex (now s) ≡ listed (entriesIn (readIndex (now s))) ⌝ }
-    ensures { λ r. ⌜ Puts (held 0 (now (out .entry))) (numbersOf (entriesIn (readIndex (now (s .entry))))) (held r (now (out .exit))) ⌝ }
-{
-    let mut last = crate::origin();
-    let mut at: usize = 0;
-    let mut place: usize = 0;
-    while at < s.len() {
-        let next = crate::entry_at(s, at, last);
-        match next {
-            Next::Is(e, a) => {
-                place = store_entry(out, place, e);
-                last = e;
-                at = a;
-            }
-            Next::Short => return place,
-            Next::Bad => return place,
-        }
-    }
-    place
 }
 
 // Reads the index in `s` to numbers, three an entry, at the start of `entries`. Refused: 11 for bytes that are no index;
@@ -76,14 +65,14 @@ pub fn read(s: &[u8], entries: &mut [u64]) -> Listed
     ensures { λ r. ⌜ r ≡ listedFor (readIndex (now (s .entry))) (length (now (entries .entry))) ⌝ }
     ensures { λ _. ⌜ now (entries .exit) ≡ laidFor (readIndex (now (s .entry))) (now (entries .entry)) ⌝ }
 {
-    let scanned = crate::scan(s);
+    let scanned = scan(s);
     if !scanned.whole {
         return listing(11, 0);
     }
     if entries.len() / 3 < scanned.count {
         return listing(8, 0);
     }
-    store_all(s, entries);
+    walk(s, 0, entries);
     listing(0, scanned.count)
 }
 
@@ -118,25 +107,103 @@ fn found_next(best: Found, number: u64, e: Entry) -> Found
     best
 }
 
+// What going over an index once gives: whether it is one, how many entries it has and the last of them.
+pub struct Scanned {
+    pub whole: bool,
+    pub count: usize,
+    pub last: Entry,
+}
+
+// The same, with what was found and the place behind the numbers that were stored.
+struct Walked {
+    scanned: Scanned,
+    best: Found,
+    place: usize,
+}
+
+fn no_index(place: usize) -> Walked
+    ensures { λ r. ⌜ r .scanned ≡ scanOf noIndex ⌝ }
+{
+    let scanned = Scanned {
+        whole: false,
+        count: 0,
+        last: crate::origin(),
+    };
+    Walked {
+        scanned,
+        best: finding(11, 0, 0),
+        place,
+    }
+}
+
+// Goes over the index in `s`: finds the exhibit with a number, and puts the numbers of all entries at the start of `out`.
+fn walk(s: &[u8], number: u64, out: &mut [u64]) -> Walked
+    ensures { λ r. ⌜ Walks (now (s .entry)) number (now (out .entry)) (r .scanned) (r .best) (r .place) (now (out .exit)) ⌝ }
+{
+    let mut best = finding(12, 0, 0);
+    let mut passed: u64 = 0;
+    let mut offset: u64 = 0;
+    let mut bytes: u64 = 0;
+    let mut at: usize = 0;
+    let mut count: usize = 0;
+    let mut place: usize = 0;
+    while at < s.len() {
+        let last = Entry {
+            number: passed,
+            offset,
+            length: bytes,
+        };
+        let next = crate::entry_at(s, at, last);
+        match next {
+            Next::Is(e, a) => {
+                best = found_next(best, number, e);
+                place = store_entry(out, place, e);
+                passed = e.number;
+                offset = e.offset;
+                bytes = e.length;
+                at = a;
+                count += 1;
+            }
+            Next::Short => return no_index(place),
+            Next::Bad => return no_index(place),
+        }
+    }
+    let last = Entry {
+        number: passed,
+        offset,
+        length: bytes,
+    };
+    let scanned = Scanned {
+        whole: true,
+        count,
+        last,
+    };
+    Walked {
+        scanned,
+        best,
+        place,
+    }
+}
+
+// Goes over the index in `s`.
+pub fn scan(s: &[u8]) -> Scanned
+    ensures { λ r. ⌜ r ≡ scanOf (readIndex (now (s .entry))) ⌝ }
+{
+    let mut scratch = [0u64; 1];
+    let walked = walk(s, 0, &mut scratch);
+    walked.scanned
+}
+
 // Finds the exhibit with a number in the index in `s`. Refused: 11 for bytes that are no index, whatever the number is;
 // then 12 where no entry has that number.
 pub fn find(s: &[u8], number: u64) -> Found
     ensures { λ r. ⌜ r ≡ foundIn number (readIndex (now (s .entry))) ⌝ }
 {
-    let mut best = finding(12, 0, 0);
-    let mut last = crate::origin();
-    let mut at: usize = 0;
-    while at < s.len() {
-        let next = crate::entry_at(s, at, last);
-        match next {
-            Next::Is(e, a) => {
-                best = found_next(best, number, e);
-                last = e;
-                at = a;
-            }
-            Next::Short => return finding(11, 0, 0),
-            Next::Bad => return finding(11, 0, 0),
-        }
+    let mut scratch = [0u64; 1];
+    let walked = walk(s, number, &mut scratch);
+    let scanned = walked.scanned;
+    if !scanned.whole {
+        return finding(11, 0, 0);
     }
-    best
+    walked.best
 }

@@ -19,7 +19,7 @@ pub fn add(index: &mut [u8], used: usize, e: Entry) -> Written
     if index.len() < used {
         return sealing::refuse(11, 0, 0);
     }
-    let scanned = crate::scan(&index[0..used]);
+    let scanned = crate::reading::scan(&index[0..used]);
     if !scanned.whole {
         return sealing::refuse(11, 0, 0);
     }

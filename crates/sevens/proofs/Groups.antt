@@ -109,3 +109,8 @@ sevens-some v = groups-some 4 v
 pub sevens-most : (v : ℕ) → length (sevens v) ≤ 5
 unfolding sevens
 sevens-most v = groups-most 5 v
+
+-- A number below 128 is its own byte.
+pub sevens-small : (v : ℕ) → v < 128 → sevens v ≡ v ∷ []
+unfolding sevens groups
+sevens-small v h = rw (lt-ltb v 128 h)

@@ -3,9 +3,11 @@ use Prim.Native.Nat.{ℕ, zero, suc, _+_, _-_, _≤_, _<_}
 use mathlib.Core.Path.{_≡_, refl, sym, ap, _∙_}
 use mathlib.Core.List.{List, [], _∷_, _++_}
 use native.Mathlib.Omega.{arith}
-use lib.ListN.{length, drop, length-append, length-drop}
-use lib.Seq.{drop-drop, drop-at}
-use Rattle.sevens.specs.Sevens.{most, sevens, Took, value, short, bad, takeSevens}
+use native.Mathlib.Numerals.{add-one}
+use lib.ListN.{length, getD, drop, length-append, length-drop}
+use lib.Seq.{drop-cons, drop-drop, drop-at}
+use borrow.Author.Tests.{lt-ltb, le-leb}
+use Rattle.sevens.specs.Sevens.{most, sevens, Took, value, short, bad, takeGroups, takeSevens}
 use Rattle.sevens.specs.Places.{takenAt}
 use Rattle.sevens.specs.declared.Taken.the-variants as T
 use Rattle.sevens.proofs.Groups.{sevens-only, sevens-some}
@@ -49,3 +51,14 @@ module _ (s : List ℕ) (at : ℕ) where
       go bad f g = f
       go short f g = let z : _≡_ {A = ℕ} 0 1 = cc in let n : ⊥ = omega arith in absurd n
       go (value u rest) f g = let z : _≡_ {A = ℕ} 0 1 = cc in let n : ⊥ = omega arith in absurd n
+
+  -- A byte below 128 is a number by itself.
+  pub taken-small : at < length s → getD s at 0 < 128 → TakenUp s at (getD s at 0) (at + 1)
+  unfolding takeSevens takeGroups
+  taken-small i j =
+      record {
+        is = rw (drop-cons s at 0 i, lt-ltb (getD s at 0) 128 j, le-leb (getD s at 0) most (omega arith), add-one at);
+        on = omega arith;
+        inside = omega arith;
+        small = omega arith;
+      }

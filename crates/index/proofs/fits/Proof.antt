@@ -1,25 +1,26 @@
--- The six tests of the definition, in its order.
-use Rattle.index.specs.Index.{fits}
-use borrow.Author.Needs.{needs}
+-- Where all lies low enough no sum wraps, and the tests are those of the definition.
+use native.Mathlib.Omega.{arith}
+use Rattle.index.proofs.Ranges.{all-low, fits-high, fits-low}
 use Rattle.index.proofs.fits.Statement.{statement}
 use Rattle.index.proofs.fits.Tie as tie
 use Rattle.index.proofs.fits.Reads as reads
 use Rattle.index.proofs.fits.Lts as lts
-use Rattle.index.proofs.ends_within.Reads as ends-within-reads
-use Rattle.index.proofs.is_behind.Reads as is-behind-reads
 
--- src/lib.rt:64:16
-is-behind-requires : tie.Need-is-behind-requires
-is-behind-requires c κs = search needs
-
--- src/lib.rt:65:58
-ends-within-requires : tie.Need-ends-within-requires
-ends-within-requires c κs = search needs
-
--- src/lib.rt:59:1
+-- src/lib.rt:41:9
 returns : tie.Need-returns
-unfolding fits
-returns c = rw (c .before .before .before .is-behind .ensures, c .ends-within .ensures)
+returns c = fits-high (c .before .before .before .before .args .last) (c .before .before .before .before .args .e) (c .if1 .taken)
+
+-- src/lib.rt:45:17
+add-result : tie.Need-add-result
+add-result c = let low = all-low (c .before .before .before .before .before .before .before .before .args .last .offset) (c .before .before .before .before .before .before .before .before .args .last .length) (c .before .before .before .before .before .before .before .before .args .e .offset) (c .before .before .before .before .if1 .left) in omega (arith, low .0, low .1 .0)
+
+-- src/lib.rt:46:71
+sub-result : tie.Need-sub-result
+sub-result c = all-low (c .before .before .before .before .before .before .before .before .before .before .before .before .args .last .offset) (c .before .before .before .before .before .before .before .before .before .before .before .before .args .last .length) (c .before .before .before .before .before .before .before .before .before .before .before .before .args .e .offset) (c .before .before .before .before .before .before .before .before .if1 .left) .1 .1
+
+-- src/lib.rt:37:1
+returns-2 : tie.Need-returns-2
+returns-2 c = fits-low (c .before .before .before .before .before .before .before .before .before .before .before .before .before .args .last) (c .before .before .before .before .before .before .before .before .before .before .before .before .before .args .e) (all-low (c .before .before .before .before .before .before .before .before .before .before .before .before .before .args .last .offset) (c .before .before .before .before .before .before .before .before .before .before .before .before .before .args .last .length) (c .before .before .before .before .before .before .before .before .before .before .before .before .before .args .e .offset) (c .before .before .before .before .before .before .before .before .before .if1 .left) .1 .1)
 
 pub fits-spec : {M : Type 1} → statement M
-fits-spec = tie.close (tie.spec is-behind-requires ends-within-requires returns)
+fits-spec = tie.close (tie.spec returns add-result sub-result returns-2)

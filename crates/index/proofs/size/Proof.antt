@@ -5,7 +5,7 @@ use lib.ListN.{length, length-append}
 use Rattle.sevens.specs.Sevens.{sevens}
 use Rattle.sevens.proofs.Groups.{sevens-most}
 use Rattle.index.specs.Index.{entryBytes}
-use Rattle.index.proofs.Ranges.{skip-is}
+use Rattle.index.proofs.Ranges.{skip-is, small-three, three-small}
 use borrow.Author.Needs.{needs}
 use Rattle.index.proofs.size.Statement.{statement}
 use Rattle.index.proofs.size.Tie as tie
@@ -14,53 +14,61 @@ use Rattle.index.proofs.size.Lts as lts
 use Rattle.index.proofs.less.Reads as less-reads
 use Rattle.sevens.proofs.size.Reads as size-reads
 
--- src/lib.rt:91:28
+-- src/lib.rt:95:9
 less-requires : tie.Need-less-requires
 less-requires c κs = search needs
 
--- src/lib.rt:91:9
-size-requires : tie.Need-size-requires
-size-requires c κs = search needs
-
--- src/lib.rt:92:34
+-- src/lib.rt:96:21
 less-requires-2 : tie.Need-less-requires-2
 less-requires-2 c κs = search needs
 
--- src/lib.rt:92:29
+-- src/lib.rt:96:9
 less-requires-3 : tie.Need-less-requires-3
 less-requires-3 c κs = search needs
 
--- src/lib.rt:92:9
+-- src/lib.rt:98:9
+returns : tie.Need-returns
+returns c = let small = small-three (c .before .before .before .before .less .result) (c .before .before .less3 .result) (c .before .before .before .before .before .args .e .length) (c .if1 .taken) in
+    let skip = skip-is (c .before .before .before .before .before .args .e) (c .before .before .before .before .before .args .last) (c .before .before .before .less2 .ensures) (c .before .before .less3 .ensures) in
+    ap length (three-small (c .before .before .before .before .before .args .last) (c .before .before .before .before .before .args .e) (c .before .before .before .before .less .result) (c .before .before .less3 .result) (c .before .before .before .before .less .ensures) skip (small .0) (small .1 .0) (small .1 .1))
+
+-- src/lib.rt:100:5
+size-requires : tie.Need-size-requires
+size-requires c κs = search needs
+
+-- src/lib.rt:100:26
 size-requires-2 : tie.Need-size-requires-2
 size-requires-2 c κs = search needs
 
--- src/lib.rt:93:19
+-- src/lib.rt:100:47
 size-requires-3 : tie.Need-size-requires-3
 size-requires-3 c κs = search needs
 
--- src/lib.rt:93:12
+-- src/lib.rt:100:26
 add-result : tie.Need-add-result
-add-result c = omega (arith, c .before .size2 .ensures, c .size3 .ensures, sevens-most (c .before .before .less3 .result), sevens-most (c .before .before .before .before .before .before .args .e .length))
+add-result c = omega (arith, c .before .size2 .ensures, c .size3 .ensures, sevens-most (c .before .before .before .before .before .less3 .result), sevens-most (c .before .before .before .before .before .before .before .before .args .e .length))
 
--- src/lib.rt:93:5
+-- src/lib.rt:100:5
 add-result-2 : tie.Need-add-result-2
-add-result-2 c = omega (arith, c .before .before .before .before .size .ensures, c .before .size2 .ensures, c .size3 .ensures, sevens-most (c .before .before .before .before .before .less .result), sevens-most (c .before .before .less3 .result), sevens-most (c .before .before .before .before .before .before .args .e .length))
+add-result-2 c = omega (arith, c .before .before .size .ensures, c .before .size2 .ensures, c .size3 .ensures, sevens-most (c .before .before .before .before .before .before .before .less .result), sevens-most (c .before .before .before .before .before .less3 .result), sevens-most (c .before .before .before .before .before .before .before .before .args .e .length))
 
--- src/lib.rt:88:1
-returns : tie.Need-returns
+-- src/lib.rt:92:1
+returns-2 : tie.Need-returns-2
 unfolding entryBytes
-returns c = rw (c .before .before .before .before .size .ensures, c .before .size2 .ensures, c .size3 .ensures, length-append, length-append, c .before .before .before .before .before .less .ensures, c .before .before .less3 .ensures, c .before .before .before .less2 .ensures, skip-is (c .before .before .before .before .before .before .args .e) (c .before .before .before .before .before .before .args .last))
+returns-2 c = let skip = skip-is (c .before .before .before .before .before .before .before .before .args .e) (c .before .before .before .before .before .before .before .before .args .last) (c .before .before .before .before .before .before .less2 .ensures) (c .before .before .before .before .before .less3 .ensures) in
+    rw (c .before .before .size .ensures, c .before .size2 .ensures, c .size3 .ensures, length-append, length-append, c .before .before .before .before .before .before .before .less .ensures, skip)
 
 pub size-spec : {M : Type 1} → statement M
 size-spec =
     tie.close
     (tie.spec
     less-requires
-    size-requires
     less-requires-2
     less-requires-3
+    returns
+    size-requires
     size-requires-2
     size-requires-3
     add-result
     add-result-2
-    returns)
+    returns-2)

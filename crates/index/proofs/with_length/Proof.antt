@@ -23,7 +23,7 @@ enum-known-length c = search needs
 
 -- src/lib.rt:133:36
 made-requires : tie.Need-made-requires
-made-requires c κs = search needs
+made-requires c κs = (c .before .before .before .before .before .pre .0, (c .before .before .before .before .before .pre .1, taken (c .before .before .before .before .before .args .s .now) (c .before .before .before .before .before .args .at) (c .before .length .given .0 .0) (c .before .length .given .0 .1 .0) (sym (c .before .before .before .take .ensures) ∙ c .before .length .given .1) .small))
 
 -- src/lib.rt:134:25
 enum-told : tie.Need-enum-told

@@ -10,8 +10,8 @@ use Rattle.index.proofs.reading.read.Tie as tie
 use Rattle.index.proofs.reading.read.Reads as reads
 use Rattle.index.proofs.reading.read.Lts as lts
 use Rattle.index.proofs.reading.listing.Reads as listing-reads
-use Rattle.index.proofs.scan.Reads as scan-reads
-use Rattle.index.proofs.reading.store_all.Reads as store-all-reads
+use Rattle.index.proofs.reading.scan.Reads as scan-reads
+use Rattle.index.proofs.reading.walk.Reads as walk-reads
 
 -- src/lib.rt:275:9
 scan-requires : tie.Need-scan-requires
@@ -34,9 +34,8 @@ returns-2 : tie.Need-returns-2
 returns-2 c = let x = scan-whole (readIndex (c .before .before .before .before .before .before .before .before .args .s .now)) (c .before .before .before .before .before .scan .result) (c .before .before .before .before .before .scan .ensures) (not-false _ (c .before .before .before .if1 .left)) in
     read-full (readIndex (c .before .before .before .before .before .before .before .before .args .s .now)) (c .before .before .before .before .before .before .before .before .args .entries .now) (x .reads) (omega (arith, x .count, c .before .if2 .taken)) (c .listing2 .ensures)
 
--- src/lib.rt:282:5
-store-all-requires : tie.Need-store-all-requires
-store-all-requires c κs = scan-whole (readIndex (c .before .before .before .before .before .before .before .before .args .s .now)) (c .before .before .before .before .before .scan .result) (c .before .before .before .before .before .scan .ensures) (not-false _ (c .before .before .before .if1 .left)) .reads
+walk-requires : tie.Need-walk-requires
+walk-requires c κs = search needs
 
 -- src/lib.rt:283:5
 listing-requires-3 : tie.Need-listing-requires-3
@@ -48,8 +47,13 @@ same-length c = search needs
 
 -- src/lib.rt:271:1
 returns-3 : tie.Need-returns-3
-returns-3 c = let x = scan-whole (readIndex (c .before .before .before .before .before .before .before .before .before .before .before .before .args .s .now)) (c .before .before .before .before .before .before .before .before .before .scan .result) (c .before .before .before .before .before .before .before .before .before .scan .ensures) (not-false _ (c .before .before .before .before .before .before .before .if1 .left)) in
-    read-all (readIndex (c .before .before .before .before .before .before .before .before .before .before .before .before .args .s .now)) (c .before .before .before .before .before .before .before .before .before .before .before .before .args .entries .now) (x .reads) (omega (arith, x .count, c .before .before .before .before .before .if2 .left)) (x .count) (c .before .before .before .store-all .ensures) (c .listing3 .ensures)
+returns-3 c = let s = c .before .before .before .before .before .before .before .before .before .before .before .before .args .s .now in
+    let r = c .before .before .before .before .before .before .before .before .before .scan .result in
+    let yes = not-false _ (c .before .before .before .before .before .before .before .if1 .left) in
+    let x = scan-whole (readIndex s) r (c .before .before .before .before .before .before .before .before .before .scan .ensures) yes in
+    let w = c .before .before .before .walk .ensures in
+    let again = ap (λ y. y .whole) (w .goes ∙ sym (c .before .before .before .before .before .before .before .before .before .scan .ensures)) ∙ yes in
+    read-all (readIndex s) (c .before .before .before .before .before .before .before .before .before .before .before .before .args .entries .now) (x .reads) (omega (arith, x .count, c .before .before .before .before .before .if2 .left)) (x .count) (w .stores again) (c .listing3 .ensures)
 
 pub read-spec : {M : Type 1} → statement M
 read-spec =
@@ -60,7 +64,7 @@ read-spec =
     returns
     listing-requires-2
     returns-2
-    store-all-requires
+    walk-requires
     listing-requires-3
     same-length
     returns-3)

@@ -12,7 +12,7 @@ use Rattle.index.proofs.writing.add.Reads as reads
 use Rattle.index.proofs.writing.add.Lts as lts
 use Rattle.index.proofs.fits.Reads as fits-reads
 use Rattle.index.proofs.put_entry.Reads as put-entry-reads
-use Rattle.index.proofs.scan.Reads as scan-reads
+use Rattle.index.proofs.reading.scan.Reads as scan-reads
 use Rattle.index.proofs.size.Reads as size-reads
 use Rattle.index.proofs.writing.wrote.Reads as wrote-reads
 use Rattle.sealing.proofs.refuse.Reads as refuse-reads
