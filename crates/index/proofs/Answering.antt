@@ -16,7 +16,8 @@ use Rattle.index.specs.declared.Entry.{Entry}
 use Rattle.index.specs.declared.reading.Listed.{Listed}
 use Rattle.index.specs.declared.reading.Scanned.{Scanned}
 use Rattle.index.specs.Index.{origin, fits, entryBytes, indexBytes, Listing, listed, noIndex, readIndex, pick}
-use Rattle.index.specs.Answers.{numbersOf, entriesOf, entriesIn, areEntries, writtenIndex, leftIndex, listing, listedFor, laidFor, lastOf, addedTo, addedIndex, grownBy, leftAdded}
+use Rattle.index.specs.Answers.{numbersOf, entriesOf, entriesIn, areEntries, writtenIndex, leftIndex, listing, listedFor, laidFor}
+use Rattle.index.specs.Answers.{lastOf, addedTo, addedIndex, grownBy, leftAdded}
 use Rattle.index.specs.Places.{scanOf}
 
 -- Going over the bytes tells whether they are an index, how many entries it has, and the last.
@@ -44,13 +45,16 @@ numbers-long [] = refl
 numbers-long (e ∷ es) = omega (arith, numbers-long es)
 
 -- Reading: no index, no room, and all of it.
-pub read-none : (x : Listing) (out : List ℕ) → x ≡ noIndex → {r : Listed} → r ≡ listing 11 0 → (r ≡ listedFor x (length out)) × (out ≡ laidFor x out)
+pub read-none : (x : Listing) (out : List ℕ) → x ≡ noIndex → {r : Listed} → r ≡ listing 11 0 → (r ≡ listedFor x (length out)) ×
+    (out ≡ laidFor x out)
 read-none x out e f = rw e (f, refl)
 
 module _ (x : Listing) (out : List ℕ) (es : x ≡ listed (entriesIn x)) where
-  pub read-full : length out / 3 < length (entriesIn x) → {r : Listed} → r ≡ listing 8 0 → (r ≡ listedFor x (length out)) × (out ≡ laidFor x out)
+  pub read-full : length out / 3 < length (entriesIn x) → {r : Listed} → r ≡ listing 8 0 → (r ≡ listedFor x (length out)) ×
+      (out ≡ laidFor x out)
   read-full h e =
-      let over : ltb (length out) (length (numbersOf (entriesIn x))) ≡ true = lt-ltb (length out) (length (numbersOf (entriesIn x))) (omega (arith, numbers-long (entriesIn x))) in
+      let over : ltb (length out) (length (numbersOf (entriesIn x))) ≡ true = lt-ltb (length out) (length (numbersOf (entriesIn x)))
+      (omega (arith, numbers-long (entriesIn x))) in
       rw (es, over) (e, refl)
 
   pub read-all : {count place : ℕ} {left : List ℕ} → length (entriesIn x) ≤ length out / 3 → count ≡ length (entriesIn x)
@@ -58,7 +62,8 @@ module _ (x : Listing) (out : List ℕ) (es : x ≡ listed (entriesIn x)) where
       → (r ≡ listedFor x (length out)) × (left ≡ laidFor x out)
   read-all {count} h c p e =
       let fits-in : length (numbersOf (entriesIn x)) ≤ length out = omega (arith, numbers-long (entriesIn x)) in
-      let room : ltb (length out) (length (numbersOf (entriesIn x))) ≡ false = le-ltb (length out) (length (numbersOf (entriesIn x))) fits-in in
+      let room : ltb (length out) (length (numbersOf (entriesIn x))) ≡ false = le-ltb (length out) (length (numbersOf (entriesIn x)))
+      fits-in in
       rw (es, room) (e ∙ ap (listing 0) c, put-whole p fits-in)
 
 -- What was written had room.
@@ -67,7 +72,8 @@ unfolding writtenIndex
 written-room ns room e = go (areEntries ns) (ltb room (length (indexBytes (entriesOf ns)))) refl e
   where
     go : (a b : Bool) → ltb room (length (indexBytes (entriesOf ns))) ≡ b
-        → pick a (pick b (refused 8 0 0) (wrote (length (indexBytes (entriesOf ns))))) (refused 5 0 0) .no ≡ 0 → length (indexBytes (entriesOf ns)) ≤ room
+        → pick a (pick b (refused 8 0 0) (wrote (length (indexBytes (entriesOf ns))))) (refused 5 0 0) .no ≡ 0 → length
+        (indexBytes (entriesOf ns)) ≤ room
     go true true f h = let z : ⊥ = omega arith in absurd z
     go true false f h = ltb-false _ _ f
     go false b f h = let z : ⊥ = omega arith in absurd z
@@ -77,7 +83,8 @@ pub record Adds (buffer : List ℕ) (used : ℕ) (e : Entry) (answer : Written) 
   pub answers : answer ≡ addedIndex buffer used e
   pub leaves : left ≡ leftAdded buffer used e
 
-refusing : (buffer : List ℕ) (used : ℕ) (e : Entry) (n : ℕ) {r : Written} → (eqb n 0 ≡ false) → r ≡ refused n 0 0 → refused n 0 0 ≡ addedIndex buffer used e
+refusing : (buffer : List ℕ) (used : ℕ) (e : Entry) (n : ℕ) {r : Written} → (eqb n 0 ≡ false) → r ≡ refused n 0 0 → refused n 0 0 ≡
+    addedIndex buffer used e
     → Adds buffer used e r buffer
 unfolding leftAdded
 refusing buffer used e n some is h =
@@ -101,22 +108,28 @@ module _ (buffer : List ℕ) (used : ℕ) (e : Entry) {r : Written} where
     pub add-none : readIndex (take used buffer) ≡ noIndex → r ≡ refused 11 0 0 → Adds buffer used e r buffer
     add-none f is = refusing buffer used e 11 refl is (added-in buffer used e noIndex h f)
 
-    module _ (x : readIndex (take used buffer) ≡ listed (entriesIn (readIndex (take used buffer)))) (last : Entry) (l : last ≡ lastOf origin (entriesIn (readIndex (take used buffer)))) where
+    module _ (x : readIndex (take used buffer) ≡ listed (entriesIn (readIndex (take used buffer)))) (last : Entry)
+        (l : last ≡ lastOf origin (entriesIn (readIndex (take used buffer)))) where
       pub add-unfit : fits last e ≡ false → r ≡ refused 5 0 0 → Adds buffer used e r buffer
-      add-unfit f is = refusing buffer used e 5 refl is (rw (← l, f) at (added-in buffer used e (listed (entriesIn (readIndex (take used buffer)))) h x))
+      add-unfit f is = refusing buffer used e 5 refl is
+          (rw (← l, f) at (added-in buffer used e (listed (entriesIn (readIndex (take used buffer)))) h x))
 
       module _ (f : fits last e ≡ true) (n : ℕ) (size : n ≡ length (entryBytes last e)) where
         pub add-full : length buffer - used < n → r ≡ refused 8 0 0 → Adds buffer used e r buffer
         add-full g is =
-            let over : ltb (length buffer) (used + length (entryBytes last e)) ≡ true = lt-ltb (length buffer) (used + length (entryBytes last e)) (omega arith) in
-            refusing buffer used e 8 refl is (rw (← l, f, over) at (added-in buffer used e (listed (entriesIn (readIndex (take used buffer)))) h x))
+            let over : ltb (length buffer) (used + length (entryBytes last e)) ≡ true = lt-ltb (length buffer)
+            (used + length (entryBytes last e)) (omega arith) in
+            refusing buffer used e 8 refl is
+            (rw (← l, f, over) at (added-in buffer used e (listed (entriesIn (readIndex (take used buffer)))) h x))
 
         pub add-all : {place : ℕ} {left : List ℕ} → n ≤ length buffer - used → Puts (held used buffer) (entryBytes last e) (held place left)
             → r ≡ wrote (used + n) → Adds buffer used e r left
         unfolding leftAdded
         add-all {place} {left} g p is =
-            let room : ltb (length buffer) (used + length (entryBytes last e)) ≡ false = le-ltb (length buffer) (used + length (entryBytes last e)) (omega arith) in
-            let answer : wrote (used + length (entryBytes last e)) ≡ addedIndex buffer used e = rw (← l, f, room) at (added-in buffer used e (listed (entriesIn (readIndex (take used buffer)))) h x) in
+            let room : ltb (length buffer) (used + length (entryBytes last e)) ≡ false = le-ltb (length buffer)
+            (used + length (entryBytes last e)) (omega arith) in
+            let answer : wrote (used + length (entryBytes last e)) ≡ addedIndex buffer used e = rw (← l, f, room) at
+            (added-in buffer used e (listed (entriesIn (readIndex (take used buffer)))) h x) in
             let done : eqb (addedIndex buffer used e .no) 0 ≡ true = ap (λ (w : Written). eqb (w .no) 0) (sym answer) in
             let bytes : left ≡ take used buffer ++ (entryBytes last e ++ drop (used + length (entryBytes last e)) buffer) =
             ap (λ (k : Held). k .bytes) (p .is ∙ put-fits used buffer (entryBytes last e) (omega arith)) in
@@ -126,7 +139,8 @@ module _ (buffer : List ℕ) (used : ℕ) (e : Entry) {r : Written} where
             }
 
 -- Writing: a refusal leaves the output, and what is written stands at its start.
-pub write-refused : (ns out : List ℕ) {r : Written} → r ≡ writtenIndex ns (length out) → (r .no ≡ 0 → ⊥) → (r ≡ writtenIndex ns (length out)) × (out ≡ leftIndex ns out)
+pub write-refused : (ns out : List ℕ) {r : Written} → r ≡ writtenIndex ns (length out) → (r .no ≡ 0 → ⊥) →
+    (r ≡ writtenIndex ns (length out)) × (out ≡ leftIndex ns out)
 unfolding leftIndex
 write-refused ns out e n =
     let no : eqb (writtenIndex ns (length out) .no) 0 ≡ false = ne-eqb _ 0 (λ z. n (ap (λ (w : Written). w .no) e ∙ z)) in

@@ -10,7 +10,8 @@ use Rattle.sevens.specs.Sevens.{most, sevens, takeSevens, Took}
 use Rattle.sevens.specs.Sevens as S
 use Rattle.sevens.proofs.Groups.{sevens-back, sevens-only, sevens-some}
 use Rattle.index.specs.declared.Entry.{Entry}
-use Rattle.index.specs.Index.{endOf, fits, entryBytes, Head, entry, short, bad, thenTook, pick, entryBehind, lengthOf, skipOf, entryOf}
+use Rattle.index.specs.Index.{endOf, fits, entryBytes, Head, entry, short, bad, thenTook, pick, entryBehind, lengthOf, skipOf}
+use Rattle.index.specs.Index.{entryOf}
 use Rattle.index.proofs.Ranges.{Fits, fits-is}
 
 same-entry : (a b : Entry) → a .number ≡ b .number → a .offset ≡ b .offset → a .length ≡ b .length → a ≡ b
@@ -56,7 +57,8 @@ entry-only before e s rest h = first (takeSevens s) refl h
     never-bad p q = let z : _≡_ {A = ℕ} 0 1 = cc in let n : ⊥ = omega arith in absurd n
 
     test : (gap skip size : ℕ) (r : List ℕ) → s ≡ sevens gap ++ (sevens skip ++ (sevens size ++ r)) → (t : Bool)
-        → fits before (entryBehind before gap skip size) ≡ t → pick t (entry (entryBehind before gap skip size) r) bad ≡ entry e rest → Stood before e s rest
+        → fits before (entryBehind before gap skip size) ≡ t → pick t (entry (entryBehind before gap skip size) r) bad ≡ entry e rest →
+        Stood before e s rest
     test gap skip size r b false f p = never-bad p refl
     test gap skip size r b true f p =
         let is : entryBehind before gap skip size ≡ e = cc in
@@ -67,13 +69,15 @@ entry-only before e s rest h = first (takeSevens s) refl h
         }
 
     third : (gap skip : ℕ) (r : List ℕ) → s ≡ sevens gap ++ (sevens skip ++ r) → (x : Took) → takeSevens r ≡ x
-        → thenTook x (λ size rest. pick (fits before (entryBehind before gap skip size)) (entry (entryBehind before gap skip size) rest) bad) ≡ entry e rest
+        → thenTook x (λ size rest. pick (fits before (entryBehind before gap skip size)) (entry (entryBehind before gap skip size) rest)
+        bad) ≡ entry e rest
         → Stood before e s rest
     third gap skip r b S.short f p = never p refl
     third gap skip r b S.bad f p = never-bad p refl
     third gap skip r b (S.value size q) f p =
         let only = sevens-only size r q f in
-        test gap skip size q (b ∙ ap (λ (l : List ℕ). sevens gap ++ (sevens skip ++ l)) (only .0)) (fits before (entryBehind before gap skip size)) refl p
+        test gap skip size q (b ∙ ap (λ (l : List ℕ). sevens gap ++ (sevens skip ++ l)) (only .0))
+        (fits before (entryBehind before gap skip size)) refl p
 
     second : (gap : ℕ) (r : List ℕ) → s ≡ sevens gap ++ r → (x : Took) → takeSevens r ≡ x
         → thenTook x (λ skip rest. lengthOf before gap skip rest) ≡ entry e rest → Stood before e s rest
@@ -92,7 +96,11 @@ entry-only before e s rest h = first (takeSevens s) refl h
 pub entry-some : (before e : Entry) → 0 < length (entryBytes before e)
 unfolding entryBytes
 entry-some before e =
-    omega (arith, length-append (sevens (e .number - before .number)) (sevens (e .offset - endOf before) ++ sevens (e .length)), sevens-some (e .number - before .number))
+    omega (
+      arith,
+      length-append (sevens (e .number - before .number)) (sevens (e .offset - endOf before) ++ sevens (e .length)),
+      sevens-some (e .number - before .number),
+    )
 
 pub entry-shorter : (before e : Entry) (s rest : List ℕ) → entryOf before s ≡ entry e rest → length rest < length s
 entry-shorter before e s rest h =

@@ -21,7 +21,8 @@ picked n false e rest a h = refl
 
 module _ (s : List ℕ) (at : ℕ) (last : Entry) where
   pub length-value : (gap skip v a : ℕ) → TakenUp s at v a
-      → pick (fits last (entryBehind last gap skip v)) (N.Is (entryBehind last gap skip v) a) N.Bad ≡ nextAt (length s) (lengthOf last gap skip (drop at s))
+      → pick (fits last (entryBehind last gap skip v)) (N.Is (entryBehind last gap skip v) a) N.Bad ≡ nextAt (length s)
+      (lengthOf last gap skip (drop at s))
   unfolding lengthOf
   length-value gap skip v a t =
       let place : a ≡ length s - length (drop a s) = omega (arith, length-drop a s, t .inside) in
@@ -67,8 +68,11 @@ pub near-is : (s : List ℕ) (at : ℕ) (last : Entry) → Near s at
 near-is s at last n =
     let first = taken-small s at (omega (arith, n .inside)) (n .first) in
     let two : at + 1 + 1 ≡ at + 2 = omega arith in
-    let second : TakenUp s (at + 1) (getD s (at + 1) 0) (at + 2) = rw two at (taken-small s (at + 1) (omega (arith, n .inside)) (n .second)) in
+    let second : TakenUp s (at + 1) (getD s (at + 1) 0) (at + 2) = rw two at
+    (taken-small s (at + 1) (omega (arith, n .inside)) (n .second)) in
     let three : at + 2 + 1 ≡ at + 3 = omega arith in
-    let third : TakenUp s (at + 2) (getD s (at + 2) 0) (at + 3) = rw three at (taken-small s (at + 2) (omega (arith, n .inside)) (n .third)) in
+    let third : TakenUp s (at + 2) (getD s (at + 2) 0) (at + 3) = rw three at
+    (taken-small s (at + 2) (omega (arith, n .inside)) (n .third)) in
     length-value s (at + 2) last (getD s at 0) (getD s (at + 1) 0) (getD s (at + 2) 0) (at + 3) third
-    ∙ ap (nextAt (length s)) (skip-value s (at + 1) last (getD s at 0) (getD s (at + 1) 0) (at + 2) second ∙ gap-value s at last (getD s at 0) (at + 1) first)
+    ∙ ap (nextAt (length s)) (skip-value s (at + 1) last (getD s at 0) (getD s (at + 1) 0) (at + 2) second ∙ gap-value s at last
+    (getD s at 0) (at + 1) first)

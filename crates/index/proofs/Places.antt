@@ -33,7 +33,8 @@ module _ (s : List ℕ) (at : ℕ) (last : Entry) where
           let a : d ≡ e = cc in
           let q : length s - length rest ≡ p = cc in
           let bytes = entry-only last d (drop at s) rest f .bytes in
-          let long : length s - at ≡ length (entryBytes last d) + length rest = sym (length-drop at s) ∙ ap length bytes ∙ length-append (entryBytes last d) rest in
+          let long : length s - at ≡ length (entryBytes last d) + length rest = sym (length-drop at s) ∙ ap length bytes ∙ length-append
+          (entryBytes last d) rest in
           let some = entry-some last d in
           let place : at + length (entryBytes last d) ≡ p = omega arith in
           let behind : drop p s ≡ rest = rw (← place, ← drop-drop, bytes) (drop-at (entryBytes last d) rest _ refl) in

@@ -44,17 +44,21 @@ and-false false = refl
 
 module _ {ns : List ℕ} {room : ℕ} {last : Entry} {i used : ℕ} {enough : Bool} (x : Planning ns room last i used enough) where
   bytes-next : i + 3 ≤ length ns
-      → length (bytesFrom last (entriesOf (drop i ns))) ≡ length (entryBytes last (threeAt ns i)) + length (bytesFrom (threeAt ns i) (entriesOf (drop (i + 3) ns)))
+      → length (bytesFrom last (entriesOf (drop i ns))) ≡ length (entryBytes last (threeAt ns i)) + length
+      (bytesFrom (threeAt ns i) (entriesOf (drop (i + 3) ns)))
   unfolding bytesFrom
-  bytes-next l = rw (three-next ns i l) (length-append (entryBytes last (threeAt ns i)) (bytesFrom (threeAt ns i) (entriesOf (drop (i + 3) ns))))
+  bytes-next l = rw (three-next ns i l)
+      (length-append (entryBytes last (threeAt ns i)) (bytesFrom (threeAt ns i) (entriesOf (drop (i + 3) ns))))
 
-  order-next : i + 3 ≤ length ns → inOrder last (entriesOf (drop i ns)) ≡ (fits last (threeAt ns i) && inOrder (threeAt ns i) (entriesOf (drop (i + 3) ns)))
+  order-next : i + 3 ≤ length ns → inOrder last (entriesOf (drop i ns)) ≡
+      (fits last (threeAt ns i) && inOrder (threeAt ns i) (entriesOf (drop (i + 3) ns)))
   unfolding inOrder
   order-next l = rw (three-next ns i l)
 
   -- The entry at place i fits, and its bytes are counted where there is still room.
   pub planning-next : {e : Entry} {n : ℕ} {more : Bool} {after : ℕ} → i + 3 ≤ length ns → e ≡ threeAt ns i → fits last e ≡ true
-      → n ≡ length (entryBytes last e) → more ≡ (enough && leb n (room - used)) → (more ≡ true → after ≡ used + n) → (more ≡ false → after ≡ used)
+      → n ≡ length (entryBytes last e) → more ≡ (enough && leb n (room - used)) → (more ≡ true → after ≡ used + n) →
+      (more ≡ false → after ≡ used)
       → Planning ns room e (i + 3) after more
   planning-next {e} {n} {more} {after} l is f size m taken left =
       rw is
@@ -78,7 +82,16 @@ module _ {ns : List ℕ} {room : ℕ} {last : Entry} {i used : ℕ} {enough : Bo
       full-next false g t = x .full g
       full-next true g t =
           let over : leb n (room - used) ≡ false = sym (ap (λ (b : Bool). b && leb n (room - used)) g) ∙ sym m ∙ t in
-          omega (arith, x .counts g, bytes-next l, size, ap (λ (d : Entry). length (entryBytes last d)) is, leb-false n (room - used) over, x .within)
+          omega (
+            arith,
+            x .counts g,
+            bytes-next l,
+            size,
+            ap (λ (d : Entry). length (entryBytes last d)) is,
+            leb-false n (room - used)
+                over,
+            x .within,
+          )
 
   -- An entry that does not fit, numbers that are not threes, no room, and all of it.
   pub planned-unfit : {e : Entry} → i + 3 ≤ length ns → e ≡ threeAt ns i → fits last e ≡ false → refused 5 0 0 ≡ writtenIndex ns room

@@ -16,7 +16,8 @@ use Rattle.index.specs.declared.Entry.{Entry}
 use Rattle.index.specs.declared.reading.Found.{Found}
 use Rattle.index.specs.declared.reading.Listed.{Listed}
 use Rattle.index.specs.Index.{origin, fits, inOrder, entryBytes, bytesFrom, indexBytes, Listing, listed, noIndex, readIndex, pick}
-use Rattle.index.specs.Answers.{numbersOf, entriesOf, areEntries, writtenIndex, leftIndex, listing, listedFor, laidFor, lastOf, entriesIn}
+use Rattle.index.specs.Answers.{numbersOf, entriesOf, areEntries, writtenIndex, leftIndex, listing, listedFor, laidFor, lastOf}
+use Rattle.index.specs.Answers.{entriesIn}
 use Rattle.index.specs.Answers.{addedTo, addedIndex, grownBy, leftAdded, finding, findIn, foundIn}
 use Rattle.index.proofs.Ranges.{fits-is}
 use Rattle.index.proofs.Lists.{from-back, from-only, same-entries, bytes-more, order-more}
@@ -28,14 +29,16 @@ pub data Stands (e : Entry) : List Entry → Type 0 where
 
 -- What is written is an index, and reads as the entries.
 written-good : (ns : List ℕ) (room : ℕ) → writtenIndex ns room .no ≡ 0
-    → (areEntries ns ≡ true) × (length (indexBytes (entriesOf ns)) ≤ room) × (writtenIndex ns room .length ≡ length (indexBytes (entriesOf ns)))
+    → (areEntries ns ≡ true) × (length (indexBytes (entriesOf ns)) ≤ room) ×
+    (writtenIndex ns room .length ≡ length (indexBytes (entriesOf ns)))
 unfolding writtenIndex
 written-good ns room e = go (areEntries ns) (ltb room (length (indexBytes (entriesOf ns)))) refl e
   where
     go : (a b : Bool) → ltb room (length (indexBytes (entriesOf ns))) ≡ b
         → pick a (pick b (refused 8 0 0) (wrote (length (indexBytes (entriesOf ns))))) (refused 5 0 0) .no ≡ 0
         → (a ≡ true) × (length (indexBytes (entriesOf ns)) ≤ room)
-        × (pick a (pick b (refused 8 0 0) (wrote (length (indexBytes (entriesOf ns))))) (refused 5 0 0) .length ≡ length (indexBytes (entriesOf ns)))
+        × (pick a (pick b (refused 8 0 0) (wrote (length (indexBytes (entriesOf ns))))) (refused 5 0 0) .length ≡ length
+        (indexBytes (entriesOf ns)))
     go true true f h = let z : ⊥ = omega arith in absurd z
     go true false f h = (refl, ltb-false _ _ f, refl)
     go false b f h = let z : ⊥ = omega arith in absurd z
@@ -94,7 +97,8 @@ above before e (d ∷ es) t (later x) =
     let high = above d e es (and-right (fits before d) _ t) x in
     omega arith
 
-behind-order : (before : Entry) (front : List Entry) (d : Entry) (es : List Entry) → inOrder before (front ++ (d ∷ es)) ≡ true → inOrder d es ≡ true
+behind-order : (before : Entry) (front : List Entry) (d : Entry) (es : List Entry) → inOrder before (front ++ (d ∷ es)) ≡ true → inOrder d
+    es ≡ true
 unfolding inOrder
 behind-order before [] d es t = and-right (fits before d) _ t
 behind-order before (c ∷ front) d es t = behind-order c front d es (and-right (fits before c) _ t)
@@ -111,7 +115,8 @@ found-first number [] z = let n : ⊥ = omega arith in absurd n
 found-first number (d ∷ es) z = go (found-first number es) (eqb (d .number) number) refl z
   where
     Behind : Type 0
-    Behind = findIn number es .no ≡ 0 → (e : Entry) × (Stands e es × ((e .number ≡ number) × (findIn number es ≡ finding 0 (e .offset) (e .length))))
+    Behind = findIn number es .no ≡ 0 → (e : Entry) ×
+        (Stands e es × ((e .number ≡ number) × (findIn number es ≡ finding 0 (e .offset) (e .length))))
 
     go : Behind → (t : Bool) → eqb (d .number) number ≡ t → pick t (finding 0 (d .offset) (d .length)) (findIn number es) .no ≡ 0
         → (e : Entry) × (Stands e (d ∷ es)
@@ -164,7 +169,8 @@ not-eleven number (d ∷ es) z = go (not-eleven number es) (eqb (d .number) numb
 
 -- 11 exactly where the bytes are no index, whatever the number.
 pub eleven : (s : List ℕ) (number : ℕ)
-    → (readIndex s ≡ noIndex → foundIn number (readIndex s) ≡ finding 11 0 0) × (foundIn number (readIndex s) .no ≡ 11 → readIndex s ≡ noIndex)
+    → (readIndex s ≡ noIndex → foundIn number (readIndex s) ≡ finding 11 0 0) ×
+    (foundIn number (readIndex s) .no ≡ 11 → readIndex s ≡ noIndex)
 eleven s number = ((λ e. ap (foundIn number) e), go (readIndex s))
   where
     go : (x : Listing) → foundIn number x .no ≡ 11 → x ≡ noIndex
@@ -193,12 +199,14 @@ has-room buffer used e z = outer (ltb (length buffer) used) refl z
   where
     inner : used ≤ length buffer → (es : List Entry) → readIndex (take used buffer) ≡ listed es → (f : Bool) → fits (lastOf origin es) e ≡ f
         → (b : Bool) → ltb (length buffer) (used + length (entryBytes (lastOf origin es) e)) ≡ b
-        → pick f (pick b (refused 8 0 0) (wrote (used + length (entryBytes (lastOf origin es) e)))) (refused 5 0 0) .no ≡ 0 → Room buffer used e
+        → pick f (pick b (refused 8 0 0) (wrote (used + length (entryBytes (lastOf origin es) e)))) (refused 5 0 0) .no ≡ 0 → Room buffer
+        used e
     inner u es r true fe true be h = let n : ⊥ = omega arith in absurd n
     inner u es r true fe false be h = record { old = es; reading = r; within = u; fit = fe; room = ltb-false _ _ be }
     inner u es r false fe b be h = let n : ⊥ = omega arith in absurd n
 
-    listing-of : used ≤ length buffer → (x : Listing) → readIndex (take used buffer) ≡ x → addedTo x used e (length buffer) .no ≡ 0 → Room buffer used e
+    listing-of : used ≤ length buffer → (x : Listing) → readIndex (take used buffer) ≡ x → addedTo x used e (length buffer) .no ≡ 0 → Room
+        buffer used e
     listing-of u noIndex r h = let n : ⊥ = omega arith in absurd n
     listing-of u (listed es) r h =
         inner u es r (fits (lastOf origin es) e) refl (ltb (length buffer) (used + length (entryBytes (lastOf origin es) e))) refl h
@@ -212,7 +220,13 @@ answer-is : (buffer : List ℕ) (used : ℕ) (e : Entry) (x : Room buffer used e
     → addedIndex buffer used e .length ≡ used + length (entryBytes (lastOf origin (x .old)) e)
 unfolding addedIndex
 answer-is buffer used e x =
-    rw (le-ltb (length buffer) used (x .within), x .reading, x .fit, le-ltb (length buffer) (used + length (entryBytes (lastOf origin (x .old)) e)) (x .room))
+    rw (
+      le-ltb (length buffer) used (x .within),
+      x .reading,
+      x .fit,
+      le-ltb (length buffer)
+          (used + length (entryBytes (lastOf origin (x .old)) e)) (x .room),
+    )
 
 left-is : (buffer : List ℕ) (used : ℕ) (e : Entry) → addedIndex buffer used e .no ≡ 0 → (x : Room buffer used e)
     → leftAdded buffer used e
@@ -229,7 +243,8 @@ added buffer used e z =
     let long : length front ≡ used = length-take-le used buffer (x .within) in
     let sizes : used + length new ≡ length (front ++ new) = rw (length-append, long) in
     let cut : take (addedIndex buffer used e .length) (leftAdded buffer used e) ≡ front ++ new =
-    rw (answer-is buffer used e x, left-is buffer used e z x, ← append-assoc, sizes) (take-at (front ++ new) (drop (length (front ++ new)) buffer) _ refl) in
+    rw (answer-is buffer used e x, left-is buffer used e z x, ← append-assoc, sizes)
+    (take-at (front ++ new) (drop (length (front ++ new)) buffer) _ refl) in
     let whole : front ++ new ≡ indexBytes (x .old ++ (e ∷ [])) =
     ap (λ (l : List ℕ). l ++ new) (said .bytes) ∙ sym (bytes-more origin (x .old) e) in
     record {
@@ -241,8 +256,10 @@ added buffer used e z =
     }
 
 -- 5 exactly where the entry does not fit behind the last.
-pub five-unfit : (buffer : List ℕ) (used : ℕ) (e : Entry) (es : List Entry) → used ≤ length buffer → readIndex (take used buffer) ≡ listed es
-    → (fits (lastOf origin es) e ≡ false → addedIndex buffer used e ≡ refused 5 0 0) × (addedIndex buffer used e .no ≡ 5 → fits (lastOf origin es) e ≡ false)
+pub five-unfit : (buffer : List ℕ) (used : ℕ) (e : Entry) (es : List Entry) → used ≤ length buffer → readIndex (take used buffer) ≡ listed
+    es
+    → (fits (lastOf origin es) e ≡ false → addedIndex buffer used e ≡ refused 5 0 0) ×
+    (addedIndex buffer used e .no ≡ 5 → fits (lastOf origin es) e ≡ false)
 unfolding addedIndex
 five-unfit buffer used e es u r = ((λ f. rw (le-ltb (length buffer) used u, r, f)), λ z. go (fits (lastOf origin es) e) refl (is z))
   where

@@ -49,7 +49,15 @@ fits-is before e t =
 pub is-fits : (before e : Entry) → Fits before e → fits before e ≡ true
 unfolding fits
 is-fits before e f =
-    rw (lt-ltb _ _ (f .later), le-leb _ _ (f .number), le-leb _ _ (f .behind), le-leb _ _ (f .least), le-leb _ _ (f .longest), le-leb _ _ (f .ends))
+    rw (
+      lt-ltb _ _ (f .later),
+      le-leb _ _ (f .number),
+      le-leb _ _ (f .behind),
+      le-leb _ _ (f .least),
+      le-leb _ _ (f .longest),
+      le-leb _ _
+          (f .ends),
+    )
 
 not-fits : (before e : Entry) → (Fits before e → ⊥) → fits before e ≡ false
 not-fits before e n = go (fits before e) refl
@@ -75,9 +83,11 @@ some-high a b c e i j k =
     true-false e none
 
 -- Behind an entry that lies too high nothing fits, and nothing that lies too high fits.
-pub fits-high : (before e : Entry) → ltb most (before .offset) || (ltb most (before .length) || ltb most (e .offset)) ≡ true → false ≡ fits before e
+pub fits-high : (before e : Entry) → ltb most (before .offset) || (ltb most (before .length) || ltb most (e .offset)) ≡ true → false ≡
+    fits before e
 fits-high before e h =
-    sym (not-fits before e (λ f. some-high (before .offset) (before .length) (e .offset) h (omega (arith, f .behind, f .ends)) (omega (arith, f .behind, f .ends)) (omega (arith, f .ends))))
+    sym (not-fits before e (λ f. some-high (before .offset) (before .length) (e .offset) h (omega (arith, f .behind, f .ends))
+    (omega (arith, f .behind, f .ends)) (omega (arith, f .ends))))
 
 pub fits-low : (before e : Entry) → e .offset ≤ most
     → (ltb (before .number) (e .number)
@@ -106,13 +116,18 @@ module _ (before : Entry) (gap skip size at : ℕ) where
   pub made-high : ltb most (before .number) || (ltb most (before .offset) || ltb most (before .length)) ≡ true
       → N.Bad ≡ pick (fits before (entryBehind before gap skip size)) (N.Is (entryBehind before gap skip size) at) N.Bad
   made-high h =
-      rw (not-fits before (entryBehind before gap skip size) (λ f. some-high (before .number) (before .offset) (before .length) h (omega (arith, f .number)) (omega (arith, f .ends)) (omega (arith, f .ends))))
+      rw (not-fits before (entryBehind before gap skip size)
+      (λ f. some-high (before .number) (before .offset) (before .length) h (omega (arith, f .number)) (omega (arith, f .ends))
+      (omega (arith, f .ends))))
 
-  pub made-fits : (ltb 0 gap && (leb (before .number + gap) most && (leb 7 size && (leb size 82 && leb (endOf before + skip + size) most)))) ≡ true
-      → N.Is (entryBehind before gap skip size) at ≡ pick (fits before (entryBehind before gap skip size)) (N.Is (entryBehind before gap skip size) at) N.Bad
+  pub made-fits : (ltb 0 gap && (leb (before .number + gap) most &&
+      (leb 7 size && (leb size 82 && leb (endOf before + skip + size) most)))) ≡ true
+      → N.Is (entryBehind before gap skip size) at ≡ pick (fits before (entryBehind before gap skip size))
+      (N.Is (entryBehind before gap skip size) at) N.Bad
   made-fits h = rw (made-test ∙ h)
 
-  pub made-not : (ltb 0 gap && (leb (before .number + gap) most && (leb 7 size && (leb size 82 && leb (endOf before + skip + size) most)))) ≡ false
+  pub made-not : (ltb 0 gap && (leb (before .number + gap) most &&
+      (leb 7 size && (leb size 82 && leb (endOf before + skip + size) most)))) ≡ false
       → N.Bad ≡ pick (fits before (entryBehind before gap skip size)) (N.Is (entryBehind before gap skip size) at) N.Bad
   made-not h = rw (made-test ∙ h)
 

@@ -20,7 +20,8 @@ abbrev pub scanOn : ℕ → Entry → Listing → Scanned
 scanOn count last (listed es) = record { whole = true; count = count + length es; last = lastOf last es }
 scanOn count last noIndex = scanOf noIndex
 
-counted : (n m : ℕ) (e : Entry) → n ≡ m → _≡_ {A = Scanned} (record { whole = true; count = n; last = e }) (record { whole = true; count = m; last = e })
+counted : (n m : ℕ) (e : Entry) → n ≡ m → _≡_ {A = Scanned} (record { whole = true; count = n; last = e })
+    (record { whole = true; count = m; last = e })
 counted n m e h = ap (λ (k : ℕ). record { whole = true; count = k; last = e }) h
 
 pub scan-start : (x : Listing) → scanOf x ≡ scanOn 0 origin x
@@ -70,7 +71,8 @@ unfolding findIn
 found-no number [] = refl
 found-no number (e ∷ es) = go (found-no number es) (eqb (e .number) number)
   where
-    go : eqb (findIn number es .no) 11 ≡ false → (t : Bool) → eqb (pick t (finding 0 (e .offset) (e .length)) (findIn number es) .no) 11 ≡ false
+    go : eqb (findIn number es .no) 11 ≡ false → (t : Bool) → eqb (pick t (finding 0 (e .offset) (e .length)) (findIn number es) .no) 11 ≡
+        false
     go rest true = refl
     go rest false = rest
 

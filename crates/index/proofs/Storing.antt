@@ -41,7 +41,8 @@ numbers-next : (e : Entry) (es : List Entry) → numbersOf (e ∷ es) ≡ number
 unfolding numbersOf
 numbers-next e es = refl
 
-pub storing-next : {s out₀ out out' : List ℕ} {place place' : ℕ} {last e : Entry} {at p : ℕ} → Storing s out₀ out place last at → Entered s at last e p
+pub storing-next : {s out₀ out out' : List ℕ} {place place' : ℕ} {last e : Entry} {at p : ℕ} → Storing s out₀ out place last at → Entered
+    s at last e p
     → Puts (held place out) (numbersOf (e ∷ [])) (held place' out') → Storing s out₀ out' place' e p
 storing-next {s} {out₀} {out} {out'} {place} {place'} {last} {e} {at} {p} x t put = go (readFrom e (drop p s)) refl
   where
@@ -60,14 +61,16 @@ storing-next {s} {out₀} {out} {out'} {place} {place'} {last} {e} {at} {p} x t 
               ∙ x .stores;
         }
 
-pub storing-end : {s out₀ out : List ℕ} {place : ℕ} {last : Entry} {at : ℕ} → Storing s out₀ out place last at → readFrom last (drop at s) ≡ listed []
+pub storing-end : {s out₀ out : List ℕ} {place : ℕ} {last : Entry} {at : ℕ} → Storing s out₀ out place last at → readFrom last (drop at s)
+    ≡ listed []
     → Puts (held 0 out₀) (numbersOf (entriesIn (readIndex s))) (held place out)
 unfolding numbersOf wrote
 storing-end {s} {out₀} {out} {place} {last} {at} x f =
     let none : x .left ≡ [] = cc (x .reads, f) in
     record { is = sym (ap (λ (es : List Entry). wrote (held place out) (numbersOf es)) none) ∙ x .stores }
 
-pub storing-never : {A : Type 0} {s out₀ out : List ℕ} {place : ℕ} {last : Entry} {at : ℕ} → Storing s out₀ out place last at → readFrom last (drop at s) ≡ noIndex → A
+pub storing-never : {A : Type 0} {s out₀ out : List ℕ} {place : ℕ} {last : Entry} {at : ℕ} → Storing s out₀ out place last at → readFrom
+    last (drop at s) ≡ noIndex → A
 storing-never x f = let z : _≡_ {A = ℕ} 0 1 = cc (x .reads, f) in let n : ⊥ = omega arith in absurd n
 
 -- The entry of the next three numbers, and none where there are fewer.
@@ -92,7 +95,8 @@ module _ (ns : List ℕ) (i : ℕ) (last : Entry) where
       → wrote k (bytesFrom (threeAt ns i) (entriesOf (drop (i + 3) ns))) ≡ wrote h (bytesFrom last (entriesOf (drop i ns)))
   unfolding bytesFrom
   put-next {h} {k} l p =
-      rw (three-next ns i l, p .is) (sym (wrote-append h (entryBytes last (threeAt ns i)) (bytesFrom (threeAt ns i) (entriesOf (drop (i + 3) ns)))))
+      rw (three-next ns i l, p .is) (sym
+      (wrote-append h (entryBytes last (threeAt ns i)) (bytesFrom (threeAt ns i) (entriesOf (drop (i + 3) ns)))))
 
   pub put-end : (h : Held) → length ns - i < 3 → h ≡ wrote h (bytesFrom last (entriesOf (drop i ns)))
   unfolding bytesFrom wrote

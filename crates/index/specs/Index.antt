@@ -63,7 +63,8 @@ entryBehind before gap skip size = record { number = before .number + gap; offse
 -- Three numbers, the gaps and the length, that make an entry which fits; from the last to the first.
 unfoldable pub lengthOf : Entry → ℕ → ℕ → List ℕ → Head
 lengthOf before gap skip s =
-    thenTook (takeSevens s) λ size rest. pick (fits before (entryBehind before gap skip size)) (entry (entryBehind before gap skip size) rest) bad
+    thenTook (takeSevens s) λ size rest. pick (fits before (entryBehind before gap skip size))
+    (entry (entryBehind before gap skip size) rest) bad
 
 unfoldable pub skipOf : Entry → ℕ → List ℕ → Head
 skipOf before gap s = thenTook (takeSevens s) λ skip rest. lengthOf before gap skip rest

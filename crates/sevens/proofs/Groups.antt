@@ -50,7 +50,8 @@ groups-only (suc w) v (b ∷ s) rest e = low (λ u r f. groups-only w u s r f) (
         let same : r ≡ rest = cc in
         rw (over, byte, high, ← same) (ap (λ (l : List ℕ). b ∷ l) (only u r f))
 
-    higher : Behind → (x : Took) → takeGroups w s ≡ x → 128 ≤ b → b < 256 → onto (b - 128) x ≡ value v rest → b ∷ s ≡ groups (suc w) v ++ rest
+    higher : Behind → (x : Took) → takeGroups w s ≡ x → 128 ≤ b → b < 256 → onto (b - 128) x ≡ value v rest → b ∷ s ≡ groups (suc w) v ++
+        rest
     higher only short f i j g = cc
     higher only bad f i j g = cc
     higher only (value u r) f i j g = zeroed only u r f i j (eqb u 0) refl g

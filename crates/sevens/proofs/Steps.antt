@@ -65,11 +65,13 @@ joined-onto sum unit low short = refl
 joined-onto sum unit low bad = refl
 joined-onto sum unit low (value v rest) = go (eqb v 0) refl
   where
-    go : (t : Bool) → eqb v 0 ≡ t → joined sum unit (pick t bad (value (low + 128 * v) rest)) ≡ pick t bad (value (sum + unit * low + unit * 128 * v) rest)
+    go : (t : Bool) → eqb v 0 ≡ t → joined sum unit (pick t bad (value (low + 128 * v) rest)) ≡ pick t bad
+        (value (sum + unit * low + unit * 128 * v) rest)
     go true e = refl
     go false e =
         let some : eqb (low + 128 * v) 0 ≡ false = ne-eqb (low + 128 * v) 0 (λ z. omega (arith, eqb-false v 0 e)) in
-        let sums : sum + unit * (low + 128 * v) ≡ sum + unit * low + unit * 128 * v = omega (arith, mul-add unit low (128 * v), mul-assoc unit 128 v) in
+        let sums : sum + unit * (low + 128 * v) ≡ sum + unit * low + unit * 128 * v = omega
+        (arith, mul-add unit low (128 * v), mul-assoc unit 128 v) in
         rw some (ap (λ (m : ℕ). value m rest) sums)
 
 -- The unit of the n-th group, and the sum of those before it, with one group more.
@@ -112,7 +114,8 @@ module _ (s : List ℕ) (n p sum unit : ℕ) (h : n < 5) where
     take-cons = let e : 5 - n ≡ suc (5 - (n + 1)) = omega arith in rw (e, drop-cons s p 0 i, ← add-one p)
 
     pub take-next : (b : ℕ) → b ≡ getD s p 0 → 128 ≤ b → b < 256
-        → joined sum unit (takeGroups (5 - n) (drop p s)) ≡ joined (sum + unit * (b - 128)) (unit * 128) (takeGroups (5 - (n + 1)) (drop (p + 1) s))
+        → joined sum unit (takeGroups (5 - n) (drop p s)) ≡ joined (sum + unit * (b - 128)) (unit * 128)
+        (takeGroups (5 - (n + 1)) (drop (p + 1) s))
     unfolding takeGroups
     take-next b e j k =
         rw (take-cons, ← e, le-ltb b 128 j, lt-ltb b 256 k) (joined-onto sum unit (b - 128) (takeGroups (5 - (n + 1)) (drop (p + 1) s)))
@@ -143,7 +146,8 @@ module _ (s : List ℕ) (n p sum unit : ℕ) (h : n < 5) where
             let place : p + 1 ≡ length s - length (drop (p + 1) s) = omega (arith, length-drop (p + 1) s, i) in
             rw (le-leb (sum + unit * b) most (ltb-false _ _ g)) (ap (T.Value (sum + unit * b)) place)
 
-pub take-over : (s : List ℕ) (n p sum unit : ℕ) → 5 ≤ n → T.Bad ≡ takenAt (length s) (within (joined sum unit (takeGroups (5 - n) (drop p s))))
+pub take-over : (s : List ℕ) (n p sum unit : ℕ) → 5 ≤ n → T.Bad ≡ takenAt (length s)
+    (within (joined sum unit (takeGroups (5 - n) (drop p s))))
 unfolding takeGroups
 take-over s n p sum unit h = let e : 5 - n ≡ 0 = omega arith in rw e
 

@@ -29,7 +29,8 @@ module _ (s : List ℕ) (at : ℕ) where
           let a : u ≡ v = cc in
           let q : length s - length rest ≡ p = cc in
           let only = sevens-only u (drop at s) rest f in
-          let long : length s - at ≡ length (sevens u) + length rest = sym (length-drop at s) ∙ ap length (only .0) ∙ length-append (sevens u) rest in
+          let long : length s - at ≡ length (sevens u) + length rest = sym (length-drop at s) ∙ ap length (only .0) ∙ length-append
+          (sevens u) rest in
           let some = sevens-some u in
           let place : at + length (sevens u) ≡ p = omega arith in
           let behind : drop p s ≡ rest = rw (← place, ← drop-drop, only .0) (drop-at (sevens u) rest _ refl) in

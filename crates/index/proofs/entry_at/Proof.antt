@@ -41,23 +41,30 @@ add-made-2 c = let n = c .before .before .before .is-near .ensures (c .before .b
 
 -- src/lib.rt:192:59
 shared-slice-read-made-3 : tie.Need-shared-slice-read-made-3
-shared-slice-read-made-3 c = let n = c .before .before .before .before .is-near .ensures (c .before .before .before .if1 .taken) in omega (arith, n .inside)
+shared-slice-read-made-3 c = let n = c .before .before .before .before .is-near .ensures (c .before .before .before .if1 .taken) in omega
+    (arith, n .inside)
 
 -- src/lib.rt:192:59
 cast-made-3 : tie.Need-cast-made-3
-cast-made-3 c = let n = c .before .before .before .before .is-near .ensures (c .before .before .before .if1 .taken) in omega (arith, n .third)
+cast-made-3 c = let n = c .before .before .before .before .is-near .ensures (c .before .before .before .if1 .taken) in omega
+    (arith, n .third)
 
 -- src/lib.rt:192:77
 add-made-3 : tie.Need-add-made-3
-add-made-3 c = let n = c .before .before .before .before .is-near .ensures (c .before .before .before .if1 .taken) in omega (arith, n .inside)
+add-made-3 c = let n = c .before .before .before .before .is-near .ensures (c .before .before .before .if1 .taken) in omega
+    (arith, n .inside)
 
 -- src/lib.rt:192:9
 made-requires : tie.Need-made-requires
-made-requires c κs = let n = c .before .before .before .before .is-near .ensures (c .before .before .before .if1 .taken) in (omega (arith, n .first), (omega (arith, n .second), omega (arith, n .third)))
+made-requires c κs = let n = c .before .before .before .before .is-near .ensures (c .before .before .before .if1 .taken) in
+    (omega (arith, n .first), (omega (arith, n .second), omega (arith, n .third)))
 
 -- src/lib.rt:192:9
 returns : tie.Need-returns
-returns c = c .made .ensures ∙ near-is (c .before .before .before .before .before .before .before .args .s .now) (c .before .before .before .before .before .before .before .args .at) (c .before .before .before .before .before .before .before .args .last) (c .before .before .before .before .before .is-near .ensures (c .before .before .before .before .if1 .taken))
+returns c = c .made .ensures ∙ near-is (c .before .before .before .before .before .before .before .args .s .now)
+    (c .before .before .before .before .before .before .before .args .at)
+    (c .before .before .before .before .before .before .before .args .last)
+    (c .before .before .before .before .before .is-near .ensures (c .before .before .before .before .if1 .taken))
 
 -- src/lib.rt:194:5
 longer-requires : tie.Need-longer-requires

@@ -48,7 +48,12 @@ returns-3 c = λ e.
     let s = c .before .before .before .before .before .args .s .now in
     let at = c .before .before .before .before .before .args .at in
     let small = small-three (getD s at 0) (getD s (at + 1) 0) (getD s (at + 2) 0) e in
-    record { inside = omega (arith, c .before .before .before .before .if1 .left, c .before .before .before .if2 .left); first = small .0; second = small .1 .0; third = small .1 .1 }
+    record {
+      inside = omega (arith, c .before .before .before .before .if1 .left, c .before .before .before .if2 .left);
+      first = small .0;
+      second = small .1 .0;
+      third = small .1 .1;
+    }
 
 pub is-near-spec : {M : Type 1} → statement M
 is-near-spec =

@@ -23,7 +23,9 @@ enum-known-gap c = search needs
 
 -- src/lib.rt:158:33
 with-skip-requires : tie.Need-with-skip-requires
-with-skip-requires c κs = taken (c .before .before .before .before .before .args .s .now) (c .before .before .before .before .before .args .at) (c .before .gap .given .0 .0) (c .before .gap .given .0 .1 .0) (sym (c .before .before .before .take .ensures) ∙ c .before .gap .given .1) .small
+with-skip-requires c κs = taken (c .before .before .before .before .before .args .s .now)
+    (c .before .before .before .before .before .args .at) (c .before .gap .given .0 .0) (c .before .gap .given .0 .1 .0)
+    (sym (c .before .before .before .take .ensures) ∙ c .before .gap .given .1) .small
 
 -- src/lib.rt:159:25
 enum-told : tie.Need-enum-told
@@ -35,15 +37,27 @@ enum-told-2 c = search needs
 
 -- src/lib.rt:153:1
 returns : tie.Need-returns
-returns c = c .with-skip .ensures ∙ ap (nextAt (length (c .before .before .before .before .before .before .args .s .now))) (gap-value (c .before .before .before .before .before .before .args .s .now) (c .before .before .before .before .before .before .args .at) (c .before .before .before .before .before .before .args .last) (c .before .before .gap .given .0 .0) (c .before .before .gap .given .0 .1 .0) (taken (c .before .before .before .before .before .before .args .s .now) (c .before .before .before .before .before .before .args .at) (c .before .before .gap .given .0 .0) (c .before .before .gap .given .0 .1 .0) (sym (c .before .before .before .before .take .ensures) ∙ c .before .before .gap .given .1)))
+returns c = c .with-skip .ensures ∙ ap (nextAt (length (c .before .before .before .before .before .before .args .s .now)))
+    (gap-value (c .before .before .before .before .before .before .args .s .now)
+    (c .before .before .before .before .before .before .args .at) (c .before .before .before .before .before .before .args .last)
+    (c .before .before .gap .given .0 .0) (c .before .before .gap .given .0 .1 .0)
+    (taken (c .before .before .before .before .before .before .args .s .now) (c .before .before .before .before .before .before .args .at)
+    (c .before .before .gap .given .0 .0) (c .before .before .gap .given .0 .1 .0)
+    (sym (c .before .before .before .before .take .ensures) ∙ c .before .before .gap .given .1)))
 
 -- src/lib.rt:153:1
 returns-2 : tie.Need-returns-2
-returns-2 c = gap-short (c .before .before .before .before .args .s .now) (c .before .before .before .before .args .at) (c .before .before .before .before .args .last) (taken-short (c .before .before .before .before .args .s .now) (c .before .before .before .before .args .at) (sym (c .before .before .take .ensures) ∙ c .enum-told .given .1))
+returns-2 c = gap-short (c .before .before .before .before .args .s .now) (c .before .before .before .before .args .at)
+    (c .before .before .before .before .args .last)
+    (taken-short (c .before .before .before .before .args .s .now) (c .before .before .before .before .args .at)
+    (sym (c .before .before .take .ensures) ∙ c .enum-told .given .1))
 
 -- src/lib.rt:153:1
 returns-3 : tie.Need-returns-3
-returns-3 c = gap-bad (c .before .before .before .before .args .s .now) (c .before .before .before .before .args .at) (c .before .before .before .before .args .last) (taken-bad (c .before .before .before .before .args .s .now) (c .before .before .before .before .args .at) (sym (c .before .before .take .ensures) ∙ c .enum-told2 .given .1))
+returns-3 c = gap-bad (c .before .before .before .before .args .s .now) (c .before .before .before .before .args .at)
+    (c .before .before .before .before .args .last)
+    (taken-bad (c .before .before .before .before .args .s .now) (c .before .before .before .before .args .at)
+    (sym (c .before .before .take .ensures) ∙ c .enum-told2 .given .1))
 
 pub longer-spec : {M : Type 1} → statement M
 longer-spec =

@@ -30,7 +30,8 @@ less-requires-3 c κs = search needs
 
 -- src/lib.rt:84:9
 put-three-requires : tie.Need-put-three-requires
-put-three-requires c κs = small-three (c .before .before .before .before .before .less .result) (c .before .before .before .less3 .result) (c .before .before .before .before .before .before .before .args .e .length) (c .before .if1 .taken)
+put-three-requires c κs = small-three (c .before .before .before .before .before .less .result) (c .before .before .before .less3 .result)
+    (c .before .before .before .before .before .before .before .args .e .length) (c .before .if1 .taken)
 
 -- src/lib.rt:84:9
 same-length : tie.Need-same-length
@@ -38,9 +39,20 @@ same-length c = search needs
 
 -- src/lib.rt:84:9
 returns : tie.Need-returns
-returns c = let small = small-three (c .before .before .before .before .before .before .before .before .less .result) (c .before .before .before .before .before .before .less3 .result) (c .before .before .before .before .before .before .before .before .before .before .args .e .length) (c .before .before .before .before .if1 .taken) in
-    let skip = skip-is (c .before .before .before .before .before .before .before .before .before .before .args .e) (c .before .before .before .before .before .before .before .before .before .before .args .last) (c .before .before .before .before .before .before .before .less2 .ensures) (c .before .before .before .before .before .before .less3 .ensures) in
-    as-text (three-small (c .before .before .before .before .before .before .before .before .before .before .args .last) (c .before .before .before .before .before .before .before .before .before .before .args .e) (c .before .before .before .before .before .before .before .before .less .result) (c .before .before .before .before .before .before .less3 .result) (c .before .before .before .before .before .before .before .before .less .ensures) skip (small .0) (small .1 .0) (small .1 .1)) (c .before .before .put-three .ensures)
+returns c = let small = small-three (c .before .before .before .before .before .before .before .before .less .result)
+    (c .before .before .before .before .before .before .less3 .result)
+    (c .before .before .before .before .before .before .before .before .before .before .args .e .length)
+    (c .before .before .before .before .if1 .taken) in
+    let skip = skip-is (c .before .before .before .before .before .before .before .before .before .before .args .e)
+    (c .before .before .before .before .before .before .before .before .before .before .args .last)
+    (c .before .before .before .before .before .before .before .less2 .ensures)
+    (c .before .before .before .before .before .before .less3 .ensures) in
+    as-text (three-small (c .before .before .before .before .before .before .before .before .before .before .args .last)
+    (c .before .before .before .before .before .before .before .before .before .before .args .e)
+    (c .before .before .before .before .before .before .before .before .less .result)
+    (c .before .before .before .before .before .before .less3 .result)
+    (c .before .before .before .before .before .before .before .before .less .ensures) skip (small .0) (small .1 .0) (small .1 .1))
+    (c .before .before .put-three .ensures)
 
 -- src/lib.rt:86:9
 put-requires : tie.Need-put-requires
@@ -61,8 +73,16 @@ same-length-2 c = search needs
 -- src/lib.rt:78:1
 returns-2 : tie.Need-returns-2
 unfolding entryBytes
-returns-2 c = let skip = skip-is (c .before .before .before .before .before .before .before .before .before .before .before .before .before .before .before .before .before .before .args .e) (c .before .before .before .before .before .before .before .before .before .before .before .before .before .before .before .before .before .before .args .last) (c .before .before .before .before .before .before .before .before .before .before .before .before .before .before .before .less2 .ensures) (c .before .before .before .before .before .before .before .before .before .before .before .before .before .before .less3 .ensures) in
-    (rw (c .before .before .before .before .before .before .before .before .before .before .before .before .before .before .before .before .less .ensures) at (c .before .before .before .before .before .before .before .before .before .before .put .ensures)) ⨾ ((rw skip at (c .before .before .before .before .before .before .put2 .ensures)) ⨾ c .before .before .put3 .ensures)
+returns-2 c = let skip = skip-is
+    (c .before .before .before .before .before .before .before .before .before .before .before .before .before .before .before .before
+    .before .before .args .e) (c .before .before .before .before .before .before .before .before .before .before .before .before
+    .before .before .before .before .before .before .args .last)
+    (c .before .before .before .before .before .before .before .before .before .before .before .before .before .before .before .less2
+    .ensures) (c .before .before .before .before .before .before .before .before .before .before .before .before .before .before
+    .less3 .ensures) in
+    (rw (c .before .before .before .before .before .before .before .before .before .before .before .before .before .before .before .before
+    .less .ensures) at (c .before .before .before .before .before .before .before .before .before .before .put .ensures)) ⨾
+    ((rw skip at (c .before .before .before .before .before .before .put2 .ensures)) ⨾ c .before .before .put3 .ensures)
 
 pub put-entry-spec : {M : Type 1} → statement M
 put-entry-spec =

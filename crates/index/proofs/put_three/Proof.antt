@@ -33,7 +33,8 @@ add-out c = search needs
 
 -- src/lib.rt:67:13
 slice-write-out-2 : tie.Need-slice-write-out-2
-slice-write-out-2 c = rw (length-set (c .before .before .before .args .out .now) (c .before .before .before .args .at) (c .before .before .before .args .gap)) (omega arith)
+slice-write-out-2 c = rw (length-set (c .before .before .before .args .out .now) (c .before .before .before .args .at)
+    (c .before .before .before .args .gap)) (omega arith)
 
 -- src/lib.rt:68:27
 cast-out-3 : tie.Need-cast-out-3
@@ -45,7 +46,13 @@ add-out-2 c = search needs
 
 -- src/lib.rt:68:13
 slice-write-out-3 : tie.Need-slice-write-out-3
-slice-write-out-3 c = rw (length-set (set (c .before .before .before .args .out .now) (c .before .before .before .args .at) (c .before .before .before .args .gap)) (c .before .before .before .args .at + 1) (c .before .before .before .args .skip), length-set (c .before .before .before .args .out .now) (c .before .before .before .args .at) (c .before .before .before .args .gap)) (omega arith)
+slice-write-out-3 c = rw (
+  length-set
+      (set (c .before .before .before .args .out .now) (c .before .before .before .args .at) (c .before .before .before .args .gap))
+      (c .before .before .before .args .at + 1) (c .before .before .before .args .skip),
+  length-set
+      (c .before .before .before .args .out .now) (c .before .before .before .args .at) (c .before .before .before .args .gap),
+) (omega arith)
 
 -- src/lib.rt:69:20
 add-result : tie.Need-add-result
@@ -57,7 +64,9 @@ same-length c = search needs
 
 -- src/lib.rt:69:13
 returns : tie.Need-returns
-returns c = three-room (c .before .before .before .args .at) (c .before .before .before .args .gap) (c .before .before .before .args .skip) (c .before .before .before .args .length) (c .before .before .before .args .out .now) (omega arith)
+returns c = three-room (c .before .before .before .args .at) (c .before .before .before .args .gap)
+    (c .before .before .before .args .skip) (c .before .before .before .args .length) (c .before .before .before .args .out .now)
+    (omega arith)
 
 -- src/lib.rt:72:32
 cast-put : tie.Need-cast-put
@@ -89,7 +98,8 @@ same-length-2 c = search needs
 
 -- src/lib.rt:60:1
 returns-2 : tie.Need-returns-2
-returns-2 c = c .before .before .before .before .before .before .before .before .before .before .put .ensures ⨾ c .before .before .before .before .before .before .put2 .ensures ⨾ c .before .before .put3 .ensures
+returns-2 c = c .before .before .before .before .before .before .before .before .before .before .put .ensures ⨾
+    c .before .before .before .before .before .before .put2 .ensures ⨾ c .before .before .put3 .ensures
 
 pub put-three-spec : {M : Type 1} → statement M
 put-three-spec =

@@ -28,9 +28,13 @@ less-requires-3 c κs = search needs
 
 -- src/lib.rt:98:9
 returns : tie.Need-returns
-returns c = let small = small-three (c .before .before .before .before .less .result) (c .before .before .less3 .result) (c .before .before .before .before .before .args .e .length) (c .if1 .taken) in
-    let skip = skip-is (c .before .before .before .before .before .args .e) (c .before .before .before .before .before .args .last) (c .before .before .before .less2 .ensures) (c .before .before .less3 .ensures) in
-    ap length (three-small (c .before .before .before .before .before .args .last) (c .before .before .before .before .before .args .e) (c .before .before .before .before .less .result) (c .before .before .less3 .result) (c .before .before .before .before .less .ensures) skip (small .0) (small .1 .0) (small .1 .1))
+returns c = let small = small-three (c .before .before .before .before .less .result) (c .before .before .less3 .result)
+    (c .before .before .before .before .before .args .e .length) (c .if1 .taken) in
+    let skip = skip-is (c .before .before .before .before .before .args .e) (c .before .before .before .before .before .args .last)
+    (c .before .before .before .less2 .ensures) (c .before .before .less3 .ensures) in
+    ap length (three-small (c .before .before .before .before .before .args .last) (c .before .before .before .before .before .args .e)
+    (c .before .before .before .before .less .result) (c .before .before .less3 .result)
+    (c .before .before .before .before .less .ensures) skip (small .0) (small .1 .0) (small .1 .1))
 
 -- src/lib.rt:100:5
 size-requires : tie.Need-size-requires
@@ -46,17 +50,46 @@ size-requires-3 c κs = search needs
 
 -- src/lib.rt:100:26
 add-result : tie.Need-add-result
-add-result c = omega (arith, c .before .size2 .ensures, c .size3 .ensures, sevens-most (c .before .before .before .before .before .less3 .result), sevens-most (c .before .before .before .before .before .before .before .before .args .e .length))
+add-result c = omega (
+  arith,
+  c .before .size2 .ensures,
+  c .size3 .ensures,
+  sevens-most
+      (c .before .before .before .before .before .less3 .result),
+  sevens-most
+      (c .before .before .before .before .before .before .before .before .args .e .length),
+)
 
 -- src/lib.rt:100:5
 add-result-2 : tie.Need-add-result-2
-add-result-2 c = omega (arith, c .before .before .size .ensures, c .before .size2 .ensures, c .size3 .ensures, sevens-most (c .before .before .before .before .before .before .before .less .result), sevens-most (c .before .before .before .before .before .less3 .result), sevens-most (c .before .before .before .before .before .before .before .before .args .e .length))
+add-result-2 c = omega (
+  arith,
+  c .before .before .size .ensures,
+  c .before .size2 .ensures,
+  c .size3 .ensures,
+  sevens-most
+      (c .before .before .before .before .before .before .before .less .result),
+  sevens-most
+      (c .before .before .before .before .before .less3 .result),
+  sevens-most
+      (c .before .before .before .before .before .before .before .before .args .e .length),
+)
 
 -- src/lib.rt:92:1
 returns-2 : tie.Need-returns-2
 unfolding entryBytes
-returns-2 c = let skip = skip-is (c .before .before .before .before .before .before .before .before .args .e) (c .before .before .before .before .before .before .before .before .args .last) (c .before .before .before .before .before .before .less2 .ensures) (c .before .before .before .before .before .less3 .ensures) in
-    rw (c .before .before .size .ensures, c .before .size2 .ensures, c .size3 .ensures, length-append, length-append, c .before .before .before .before .before .before .before .less .ensures, skip)
+returns-2 c = let skip = skip-is (c .before .before .before .before .before .before .before .before .args .e)
+    (c .before .before .before .before .before .before .before .before .args .last)
+    (c .before .before .before .before .before .before .less2 .ensures) (c .before .before .before .before .before .less3 .ensures) in
+    rw (
+      c .before .before .size .ensures,
+      c .before .size2 .ensures,
+      c .size3 .ensures,
+      length-append,
+      length-append,
+      c .before .before .before .before .before .before .before .less .ensures,
+      skip,
+    )
 
 pub size-spec : {M : Type 1} → statement M
 size-spec =

@@ -23,7 +23,13 @@ enum-known-skip c = search needs
 
 -- src/lib.rt:146:34
 with-length-requires : tie.Need-with-length-requires
-with-length-requires c κs = (c .before .before .before .before .before .pre, taken (c .before .before .before .before .before .args .s .now) (c .before .before .before .before .before .args .at) (c .before .skip .given .0 .0) (c .before .skip .given .0 .1 .0) (sym (c .before .before .before .take .ensures) ∙ c .before .skip .given .1) .small)
+with-length-requires c κs = (
+  c .before .before .before .before .before .pre,
+  taken
+      (c .before .before .before .before .before .args .s .now) (c .before .before .before .before .before .args .at)
+      (c .before .skip .given .0 .0) (c .before .skip .given .0 .1 .0)
+      (sym (c .before .before .before .take .ensures) ∙ c .before .skip .given .1) .small,
+)
 
 -- src/lib.rt:147:25
 enum-told : tie.Need-enum-told
@@ -35,15 +41,28 @@ enum-told-2 c = search needs
 
 -- src/lib.rt:140:1
 returns : tie.Need-returns
-returns c = c .with-length .ensures ∙ ap (nextAt (length (c .before .before .before .before .before .before .args .s .now))) (skip-value (c .before .before .before .before .before .before .args .s .now) (c .before .before .before .before .before .before .args .at) (c .before .before .before .before .before .before .args .last) (c .before .before .before .before .before .before .args .gap) (c .before .before .skip .given .0 .0) (c .before .before .skip .given .0 .1 .0) (taken (c .before .before .before .before .before .before .args .s .now) (c .before .before .before .before .before .before .args .at) (c .before .before .skip .given .0 .0) (c .before .before .skip .given .0 .1 .0) (sym (c .before .before .before .before .take .ensures) ∙ c .before .before .skip .given .1)))
+returns c = c .with-length .ensures ∙ ap (nextAt (length (c .before .before .before .before .before .before .args .s .now)))
+    (skip-value (c .before .before .before .before .before .before .args .s .now)
+    (c .before .before .before .before .before .before .args .at) (c .before .before .before .before .before .before .args .last)
+    (c .before .before .before .before .before .before .args .gap) (c .before .before .skip .given .0 .0)
+    (c .before .before .skip .given .0 .1 .0)
+    (taken (c .before .before .before .before .before .before .args .s .now) (c .before .before .before .before .before .before .args .at)
+    (c .before .before .skip .given .0 .0) (c .before .before .skip .given .0 .1 .0)
+    (sym (c .before .before .before .before .take .ensures) ∙ c .before .before .skip .given .1)))
 
 -- src/lib.rt:140:1
 returns-2 : tie.Need-returns-2
-returns-2 c = skip-short (c .before .before .before .before .args .s .now) (c .before .before .before .before .args .at) (c .before .before .before .before .args .last) (c .before .before .before .before .args .gap) (taken-short (c .before .before .before .before .args .s .now) (c .before .before .before .before .args .at) (sym (c .before .before .take .ensures) ∙ c .enum-told .given .1))
+returns-2 c = skip-short (c .before .before .before .before .args .s .now) (c .before .before .before .before .args .at)
+    (c .before .before .before .before .args .last) (c .before .before .before .before .args .gap)
+    (taken-short (c .before .before .before .before .args .s .now) (c .before .before .before .before .args .at)
+    (sym (c .before .before .take .ensures) ∙ c .enum-told .given .1))
 
 -- src/lib.rt:140:1
 returns-3 : tie.Need-returns-3
-returns-3 c = skip-bad (c .before .before .before .before .args .s .now) (c .before .before .before .before .args .at) (c .before .before .before .before .args .last) (c .before .before .before .before .args .gap) (taken-bad (c .before .before .before .before .args .s .now) (c .before .before .before .before .args .at) (sym (c .before .before .take .ensures) ∙ c .enum-told2 .given .1))
+returns-3 c = skip-bad (c .before .before .before .before .args .s .now) (c .before .before .before .before .args .at)
+    (c .before .before .before .before .args .last) (c .before .before .before .before .args .gap)
+    (taken-bad (c .before .before .before .before .args .s .now) (c .before .before .before .before .args .at)
+    (sym (c .before .before .take .ensures) ∙ c .enum-told2 .given .1))
 
 pub with-skip-spec : {M : Type 1} → statement M
 with-skip-spec =

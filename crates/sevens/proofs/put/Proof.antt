@@ -12,7 +12,8 @@ use Rattle.sevens.proofs.put.Lts as lts
 use Rattle.put.proofs.put.Reads as put-reads
 
 abbrev Inv-loop : tie.InvT-loop
-Inv-loop out₀ at v place₀ left₀ n₀ out place left n = (n ≤ 5) × ((length out ≡ length out₀) × (wrote (held place out) (groups (5 - n) left) ≡ wrote (held at out₀) (groups 5 v)))
+Inv-loop out₀ at v place₀ left₀ n₀ out place left n = (n ≤ 5) ×
+    ((length out ≡ length out₀) × (wrote (held place out) (groups (5 - n) left) ≡ wrote (held at out₀) (groups 5 v)))
 
 abbrev μ-loop : tie.MeasureT-loop
 μ-loop out₀ at v place₀ left₀ n₀ out place left n = 5 - n
@@ -36,7 +37,12 @@ same-length c = c .before .before .put .kept .0 ∙ c .before .before .before .b
 -- src/lib.rt:43:13
 returns : tie.Need-returns Inv-loop μ-loop
 unfolding sevens
-returns c = record { is = put-last (c .before .before .before .before .before .before .loop .n) (c .before .before .before .before .before .before .loop .left) (c .before .before .before .before .before .loop-test .taken) (c .before .before .before .before .if1 .taken) (c .before .before .put .ensures) ∙ c .before .before .before .before .before .before .loop .inv .1 .1 }
+returns c = record {
+  is = put-last (c .before .before .before .before .before .before .loop .n)
+      (c .before .before .before .before .before .before .loop .left) (c .before .before .before .before .before .loop-test .taken)
+      (c .before .before .before .before .if1 .taken) (c .before .before .put .ensures) ∙
+      c .before .before .before .before .before .before .loop .inv .1 .1;
+}
 
 -- src/lib.rt:45:44
 cast-put-2 : tie.Need-cast-put-2 Inv-loop μ-loop
@@ -60,7 +66,15 @@ loop-less c = omega arith
 
 -- src/lib.rt:41:5
 loop-again : tie.Need-loop-again Inv-loop μ-loop
-loop-again c = (omega arith, (c .before .before .put2 .kept .0 ∙ c .before .before .before .before .before .before .loop .inv .1 .0, put-more (c .before .before .before .before .before .before .loop .n) (c .before .before .before .before .before .before .loop .left) (c .before .before .before .before .before .loop-test .taken) (c .before .before .before .before .if1 .left) (c .before .before .put2 .ensures) ∙ c .before .before .before .before .before .before .loop .inv .1 .1))
+loop-again c = (
+  omega arith,
+  (
+    c .before .before .put2 .kept .0 ∙ c .before .before .before .before .before .before .loop .inv .1 .0,
+    put-more (c .before .before .before .before .before .before .loop .n) (c .before .before .before .before .before .before .loop .left)
+        (c .before .before .before .before .before .loop-test .taken) (c .before .before .before .before .if1 .left)
+        (c .before .before .put2 .ensures) ∙ c .before .before .before .before .before .before .loop .inv .1 .1,
+  ),
+)
 
 -- src/lib.rt:35:1
 same-length-2 : tie.Need-same-length-2 Inv-loop μ-loop
@@ -69,7 +83,10 @@ same-length-2 c = c .before .loop .inv .1 .0
 -- src/lib.rt:35:1
 returns-2 : tie.Need-returns-2 Inv-loop μ-loop
 unfolding sevens
-returns-2 c = record { is = put-none (held (c .before .loop .place) (c .before .loop .out)) (c .before .loop .n) (c .before .loop .left) (c .loop-test .left) ∙ c .before .loop .inv .1 .1 }
+returns-2 c = record {
+  is = put-none (held (c .before .loop .place) (c .before .loop .out)) (c .before .loop .n) (c .before .loop .left)
+      (c .loop-test .left) ∙ c .before .loop .inv .1 .1;
+}
 
 pub put-spec : {M : Type 1} → statement M
 put-spec =

@@ -26,7 +26,12 @@ add-result c = omega arith
 -- src/lib.rt:26:13
 returns : tie.Need-returns Inv-loop μ-loop
 unfolding sevens
-returns c = omega (arith, c .before .before .loop .inv .1, size-last (c .before .before .loop .n) (c .before .before .loop .left) (omega arith) (c .if1 .taken))
+returns c = omega (
+  arith,
+  c .before .before .loop .inv .1,
+  size-last (c .before .before .loop .n) (c .before .before .loop .left)
+      (omega arith) (c .if1 .taken),
+)
 
 -- src/lib.rt:29:9
 add-n : tie.Need-add-n Inv-loop μ-loop
@@ -38,7 +43,15 @@ loop-less c = omega arith
 
 -- src/lib.rt:24:5
 loop-again : tie.Need-loop-again Inv-loop μ-loop
-loop-again c = (omega arith, omega (arith, c .before .before .loop .inv .1, size-more (c .before .before .loop .n) (c .before .before .loop .left) (omega arith) (c .if1 .left)))
+loop-again c = (
+  omega arith,
+  omega (
+    arith,
+    c .before .before .loop .inv .1,
+    size-more (c .before .before .loop .n) (c .before .before .loop .left) (omega arith)
+        (c .if1 .left),
+  ),
+)
 
 -- src/lib.rt:31:5
 add-result-2 : tie.Need-add-result-2 Inv-loop μ-loop

@@ -30,7 +30,8 @@ add-t8 c = search needs
 
 -- src/lib.rt:96:9
 returns-2 : tie.Need-returns-2
-returns-2 c = first-value (c .before .before .before .before .before .args .s .now) (c .before .before .before .before .before .args .at) (c .before .before .before .if1 .left) (c .before .wide .result) (c .before .wide .ensures) (c .if2 .taken)
+returns-2 c = first-value (c .before .before .before .before .before .args .s .now) (c .before .before .before .before .before .args .at)
+    (c .before .before .before .if1 .left) (c .before .wide .result) (c .before .wide .ensures) (c .if2 .taken)
 
 -- src/lib.rt:98:18
 add-take-more : tie.Need-add-take-more
@@ -38,12 +39,21 @@ add-take-more c = search needs
 
 -- src/lib.rt:98:5
 take-more-requires : tie.Need-take-more-requires
-take-more-requires c κs = omega (arith, c .before .wide .ensures, c .before .before .shared-slice-known2 .given (c .before .before .before .before .before .args .at))
+take-more-requires c κs = omega
+    (arith, c .before .wide .ensures, c .before .before .shared-slice-known2 .given (c .before .before .before .before .before .args .at))
 
 -- src/lib.rt:88:1
 returns-3 : tie.Need-returns-3
-returns-3 c = let byte : c .before .before .wide .result < 256 = omega (arith, c .before .before .wide .ensures, c .before .before .before .shared-slice-known2 .given (c .before .before .before .before .before .before .args .at)) in
-    c .take-more .ensures ∙ ap (takenAt (length (c .before .before .before .before .before .before .args .s .now))) (first-more (c .before .before .before .before .before .before .args .s .now) (c .before .before .before .before .before .before .args .at) (c .before .before .before .before .if1 .left) (c .before .before .wide .result) (c .before .before .wide .ensures) (c .before .if2 .left) byte)
+returns-3 c = let byte : c .before .before .wide .result < 256 = omega (
+  arith,
+  c .before .before .wide .ensures,
+  c .before .before .before .shared-slice-known2 .given
+      (c .before .before .before .before .before .before .args .at),
+) in
+    c .take-more .ensures ∙ ap (takenAt (length (c .before .before .before .before .before .before .args .s .now)))
+    (first-more (c .before .before .before .before .before .before .args .s .now)
+    (c .before .before .before .before .before .before .args .at) (c .before .before .before .before .if1 .left)
+    (c .before .before .wide .result) (c .before .before .wide .ensures) (c .before .if2 .left) byte)
 
 pub take-spec : {M : Type 1} → statement M
 take-spec =

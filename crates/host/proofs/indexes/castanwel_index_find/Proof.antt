@@ -23,8 +23,18 @@ kept-wide-requires-2 c κs = search needs
 
 -- src/indexes.rt:90:1
 returns : tie.Need-returns
-returns c = let e = c .before .before .before .before .find .ensures in
-    (ap (λ w. w .no) e, (c .before .before .kept-wide .ensures ∙ ap (λ w. setAt (w .no) (w .offset) (c .before .before .before .before .before .before .args .offset .now)) e, (c .kept-wide2 .ensures ∙ ap (λ w. setAt (w .no) (w .length) (c .before .before .before .before .before .before .args .size .now)) e, (ap (λ w. w .line) e, ap (λ w. w .field) e))))
+returns c = let e = c .before .before .before .before .find .ensures in (
+  ap (λ w. w .no) e,
+  (
+    c .before .before .kept-wide .ensures ∙ ap
+        (λ w. setAt (w .no) (w .offset) (c .before .before .before .before .before .before .args .offset .now)) e,
+    (
+      c .kept-wide2 .ensures ∙ ap (λ w. setAt (w .no) (w .length) (c .before .before .before .before .before .before .args .size .now))
+          e,
+      (ap (λ w. w .line) e, ap (λ w. w .field) e),
+    ),
+  ),
+)
 
 pub castanwel-index-find-spec : {M : Type 1} → statement M
 castanwel-index-find-spec =

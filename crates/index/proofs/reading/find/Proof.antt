@@ -27,7 +27,8 @@ finding-requires c κs = search needs
 -- src/reading.rt:206:9
 returns : tie.Need-returns
 returns c = let w = c .before .before .before .before .before .walk .ensures in
-    let none = scan-none (readIndex (c .before .before .before .before .before .before .before .before .args .s .now)) (c .before .before .before .before .before .walk .result .scanned) (w .goes) (not-true _ (c .before .if1 .taken)) in
+    let none = scan-none (readIndex (c .before .before .before .before .before .before .before .before .args .s .now))
+    (c .before .before .before .before .before .walk .result .scanned) (w .goes) (not-true _ (c .before .if1 .taken)) in
     c .finding .ensures ∙ sym (ap (foundIn (c .before .before .before .before .before .before .before .before .args .number)) none)
 
 -- src/reading.rt:199:1

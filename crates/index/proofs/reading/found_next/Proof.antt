@@ -14,7 +14,8 @@ finding-requires c κs = search needs
 
 -- src/lib.rt:312:9
 returns : tie.Need-returns
-returns c = c .finding .ensures ∙ let x1 = c .before in let x2 = c .before .before in let x3 = c .before .before .before in rw (c .before .if1 .taken)
+returns c = c .finding .ensures ∙ let x1 = c .before in let x2 = c .before .before in let x3 = c .before .before .before in rw
+    (c .before .if1 .taken)
 
 -- src/lib.rt:308:1
 returns-2 : tie.Need-returns-2

@@ -23,7 +23,10 @@ listing-requires c κs = search needs
 
 -- src/lib.rt:277:9
 returns : tie.Need-returns
-returns c = read-none (readIndex (c .before .before .before .before .before .before .args .s .now)) (c .before .before .before .before .before .before .args .entries .now) (scan-none (readIndex (c .before .before .before .before .before .before .args .s .now)) (c .before .before .before .scan .result) (c .before .before .before .scan .ensures) (not-true _ (c .before .if1 .taken))) (c .listing .ensures)
+returns c = read-none (readIndex (c .before .before .before .before .before .before .args .s .now))
+    (c .before .before .before .before .before .before .args .entries .now)
+    (scan-none (readIndex (c .before .before .before .before .before .before .args .s .now)) (c .before .before .before .scan .result)
+    (c .before .before .before .scan .ensures) (not-true _ (c .before .if1 .taken))) (c .listing .ensures)
 
 -- src/lib.rt:280:9
 listing-requires-2 : tie.Need-listing-requires-2
@@ -31,8 +34,12 @@ listing-requires-2 c κs = search needs
 
 -- src/lib.rt:280:9
 returns-2 : tie.Need-returns-2
-returns-2 c = let x = scan-whole (readIndex (c .before .before .before .before .before .before .before .before .args .s .now)) (c .before .before .before .before .before .scan .result) (c .before .before .before .before .before .scan .ensures) (not-false _ (c .before .before .before .if1 .left)) in
-    read-full (readIndex (c .before .before .before .before .before .before .before .before .args .s .now)) (c .before .before .before .before .before .before .before .before .args .entries .now) (x .reads) (omega (arith, x .count, c .before .if2 .taken)) (c .listing2 .ensures)
+returns-2 c = let x = scan-whole (readIndex (c .before .before .before .before .before .before .before .before .args .s .now))
+    (c .before .before .before .before .before .scan .result) (c .before .before .before .before .before .scan .ensures)
+    (not-false _ (c .before .before .before .if1 .left)) in
+    read-full (readIndex (c .before .before .before .before .before .before .before .before .args .s .now))
+    (c .before .before .before .before .before .before .before .before .args .entries .now) (x .reads)
+    (omega (arith, x .count, c .before .if2 .taken)) (c .listing2 .ensures)
 
 walk-requires : tie.Need-walk-requires
 walk-requires c κs = search needs
@@ -52,8 +59,11 @@ returns-3 c = let s = c .before .before .before .before .before .before .before 
     let yes = not-false _ (c .before .before .before .before .before .before .before .if1 .left) in
     let x = scan-whole (readIndex s) r (c .before .before .before .before .before .before .before .before .before .scan .ensures) yes in
     let w = c .before .before .before .walk .ensures in
-    let again = ap (λ y. y .whole) (w .goes ∙ sym (c .before .before .before .before .before .before .before .before .before .scan .ensures)) ∙ yes in
-    read-all (readIndex s) (c .before .before .before .before .before .before .before .before .before .before .before .before .args .entries .now) (x .reads) (omega (arith, x .count, c .before .before .before .before .before .if2 .left)) (x .count) (w .stores again) (c .listing3 .ensures)
+    let again = ap (λ y. y .whole) (w .goes ∙ sym
+    (c .before .before .before .before .before .before .before .before .before .scan .ensures)) ∙ yes in
+    read-all (readIndex s) (c .before .before .before .before .before .before .before .before .before .before .before .before .args
+    .entries .now) (x .reads) (omega (arith, x .count, c .before .before .before .before .before .if2 .left)) (x .count)
+    (w .stores again) (c .listing3 .ensures)
 
 pub read-spec : {M : Type 1} → statement M
 read-spec =

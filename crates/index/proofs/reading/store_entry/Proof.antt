@@ -15,7 +15,8 @@ use Rattle.index.proofs.reading.store.Reads as store-reads
 -- src/reading.rt:47:9
 returns : tie.Need-returns
 unfolding numbersOf
-returns c = three-full (c .before .before .args .at) (c .before .before .args .e .number) (c .before .before .args .e .offset) (c .before .before .args .e .length) (c .before .before .args .out .now) (c .if1 .taken)
+returns c = three-full (c .before .before .args .at) (c .before .before .args .e .number) (c .before .before .args .e .offset)
+    (c .before .before .args .e .length) (c .before .before .args .out .now) (c .if1 .taken)
 
 -- src/reading.rt:50:18
 sub-if3 : tie.Need-sub-if3
@@ -39,7 +40,8 @@ mul-out-2 c = search needs
 
 -- src/reading.rt:52:13
 slice-write-out-2 : tie.Need-slice-write-out-2
-slice-write-out-2 c = rw (length-set (c .before .before .before .before .args .out .now) (c .before .before .before .before .args .at) (c .before .before .before .before .args .e .number)) (omega arith)
+slice-write-out-2 c = rw (length-set (c .before .before .before .before .args .out .now) (c .before .before .before .before .args .at)
+    (c .before .before .before .before .args .e .number)) (omega arith)
 
 -- src/reading.rt:53:17
 add-out-2 : tie.Need-add-out-2
@@ -51,7 +53,14 @@ mul-out-3 c = search needs
 
 -- src/reading.rt:53:13
 slice-write-out-3 : tie.Need-slice-write-out-3
-slice-write-out-3 c = rw (length-set (set (c .before .before .before .before .args .out .now) (c .before .before .before .before .args .at) (c .before .before .before .before .args .e .number)) (c .before .before .before .before .args .at + 1) (c .before .before .before .before .args .e .offset), length-set (c .before .before .before .before .args .out .now) (c .before .before .before .before .args .at) (c .before .before .before .before .args .e .number)) (omega arith)
+slice-write-out-3 c = rw (
+  length-set
+      (set (c .before .before .before .before .args .out .now) (c .before .before .before .before .args .at)
+      (c .before .before .before .before .args .e .number)) (c .before .before .before .before .args .at + 1)
+      (c .before .before .before .before .args .e .offset),
+  length-set (c .before .before .before .before .args .out .now)
+      (c .before .before .before .before .args .at) (c .before .before .before .before .args .e .number),
+) (omega arith)
 
 -- src/reading.rt:54:20
 add-result : tie.Need-add-result
@@ -64,7 +73,9 @@ same-length c = search needs
 -- src/reading.rt:54:13
 returns-2 : tie.Need-returns-2
 unfolding numbersOf
-returns-2 c = three-room (c .before .before .before .before .args .at) (c .before .before .before .before .args .e .number) (c .before .before .before .before .args .e .offset) (c .before .before .before .before .args .e .length) (c .before .before .before .before .args .out .now) (omega arith)
+returns-2 c = three-room (c .before .before .before .before .args .at) (c .before .before .before .before .args .e .number)
+    (c .before .before .before .before .args .e .offset) (c .before .before .before .before .args .e .length)
+    (c .before .before .before .before .args .out .now) (omega arith)
 
 -- src/reading.rt:57:9
 store-requires : tie.Need-store-requires
@@ -85,7 +96,8 @@ same-length-2 c = search needs
 -- src/reading.rt:43:1
 returns-3 : tie.Need-returns-3
 unfolding numbersOf
-returns-3 c = c .before .before .before .before .before .before .before .before .before .before .store .ensures ⨾ c .before .before .before .before .before .before .store2 .ensures ⨾ c .before .before .store3 .ensures
+returns-3 c = c .before .before .before .before .before .before .before .before .before .before .store .ensures ⨾
+    c .before .before .before .before .before .before .store2 .ensures ⨾ c .before .before .store3 .ensures
 
 pub store-entry-spec : {M : Type 1} → statement M
 store-entry-spec =

@@ -9,7 +9,8 @@ use Rattle.index.specs.Index.{listed, readFrom, readIndex}
 use Rattle.index.specs.Answers.{entriesIn, foundIn}
 use Rattle.index.specs.Places.{scanOf}
 use Rattle.index.proofs.Places.{by, entered, entered-none, entered-short, entered-bad}
-use Rattle.index.proofs.Scanning.{scanOn, scan-start, scan-next, scan-end, Kept, behind, kept-start, kept-next, find-start, find-next, find-end}
+use Rattle.index.proofs.Scanning.{scanOn, scan-start, scan-next, scan-end, Kept, behind, kept-start, kept-next, find-start}
+use Rattle.index.proofs.Scanning.{find-next, find-end}
 use Rattle.index.proofs.Storing.{Storing, storing-start, storing-next, storing-end}
 use Rattle.index.proofs.Walking.{walked-all, walked-none}
 use Rattle.index.proofs.reading.walk.Statement.{statement}
@@ -41,7 +42,27 @@ finding-requires c κs = tt
 
 -- src/reading.rt:150:5
 loop-holds : tie.Need-loop-holds Inv-loop μ-loop
-loop-holds c = (omega arith, (omega arith, (refl, (scan-start (readIndex (c .before .before .before .args .s .now)), (rw (c .finding .ensures) kept-start, (rw (c .finding .ensures) (find-start (foundIn (c .before .before .before .args .number) (readIndex (c .before .before .before .args .s .now)))), storing-start (c .before .before .before .args .s .now) (c .before .before .before .args .out .now)))))))
+loop-holds c = (
+  omega arith,
+  (
+    omega arith,
+    (
+      refl,
+      (
+        scan-start (readIndex (c .before .before .before .args .s .now)),
+        (
+          rw (c .finding .ensures) kept-start,
+          (
+            rw (c .finding .ensures) (find-start
+                (foundIn (c .before .before .before .args .number) (readIndex (c .before .before .before .args .s .now)))),
+            storing-start
+                (c .before .before .before .args .s .now) (c .before .before .before .args .out .now),
+          ),
+        ),
+      ),
+    ),
+  ),
+)
 
 -- src/reading.rt:156:13
 entry-at-requires : tie.Need-entry-at-requires Inv-loop μ-loop
@@ -61,30 +82,57 @@ store-entry-requires c κs = tt
 
 -- src/reading.rt:165:17
 add-count : tie.Need-add-count Inv-loop μ-loop
-add-count c = omega (arith, c .before .before .before .before .before .before .before .before .before .before .loop .inv .1 .0, c .before .before .before .before .before .before .before .before .before .loop-test .taken)
+add-count c = omega (
+  arith,
+  c .before .before .before .before .before .before .before .before .before .before .loop .inv .1 .0,
+  c .before .before .before .before .before .before .before .before .before .loop-test .taken,
+)
 
 -- src/reading.rt:150:5
 loop-less : tie.Need-loop-less Inv-loop μ-loop
-loop-less c = let last = by (c .before .before .before .before .before .before .before .before .before .before .loop .passed) (c .before .before .before .before .before .before .before .before .before .before .loop .offset) (c .before .before .before .before .before .before .before .before .before .before .loop .bytes) in
-    let x = entered (c .before .before .before .before .before .before .before .before .before .before .before .before .before .before .args .s .now) (c .before .before .before .before .before .before .before .before .before .before .loop .at) last (c .before .before .before .before .before .before .next .given .0 .0) (c .before .before .before .before .before .before .next .given .0 .1 .0) (sym (c .before .before .before .before .before .before .before .before .entry-at .ensures) ∙ c .before .before .before .before .before .before .next .given .1) in
+loop-less c = let last = by (c .before .before .before .before .before .before .before .before .before .before .loop .passed)
+    (c .before .before .before .before .before .before .before .before .before .before .loop .offset)
+    (c .before .before .before .before .before .before .before .before .before .before .loop .bytes) in
+    let x = entered (c .before .before .before .before .before .before .before .before .before .before .before .before .before .before
+    .args .s .now) (c .before .before .before .before .before .before .before .before .before .before .loop .at) last
+    (c .before .before .before .before .before .before .next .given .0 .0)
+    (c .before .before .before .before .before .before .next .given .0 .1 .0)
+    (sym (c .before .before .before .before .before .before .before .before .entry-at .ensures) ∙
+    c .before .before .before .before .before .before .next .given .1) in
     omega (arith, x .on, x .inside)
 
 -- src/reading.rt:150:5
 loop-again : tie.Need-loop-again Inv-loop μ-loop
-loop-again c = let last = by (c .before .before .before .before .before .before .before .before .before .before .loop .passed) (c .before .before .before .before .before .before .before .before .before .before .loop .offset) (c .before .before .before .before .before .before .before .before .before .before .loop .bytes) in
+loop-again c = let last = by (c .before .before .before .before .before .before .before .before .before .before .loop .passed)
+    (c .before .before .before .before .before .before .before .before .before .before .loop .offset)
+    (c .before .before .before .before .before .before .before .before .before .before .loop .bytes) in
     let e = c .before .before .before .before .before .before .next .given .0 .0 in
     let p = c .before .before .before .before .before .before .next .given .0 .1 .0 in
-    let s = c .before .before .before .before .before .before .before .before .before .before .before .before .before .before .args .s .now in
-    let number = c .before .before .before .before .before .before .before .before .before .before .before .before .before .before .args .number in
+    let s = c .before .before .before .before .before .before .before .before .before .before .before .before .before .before .args .s
+    .now in
+    let number = c .before .before .before .before .before .before .before .before .before .before .before .before .before .before .args
+    .number in
     let best = c .before .before .before .before .before .before .before .before .before .before .loop .best in
     let count = c .before .before .before .before .before .before .before .before .before .before .loop .count in
     let inv = c .before .before .before .before .before .before .before .before .before .before .loop .inv in
-    let x = entered s (c .before .before .before .before .before .before .before .before .before .before .loop .at) last e p (sym (c .before .before .before .before .before .before .before .before .entry-at .ensures) ∙ c .before .before .before .before .before .before .next .given .1) in
+    let x = entered s (c .before .before .before .before .before .before .before .before .before .before .loop .at) last e p
+    (sym (c .before .before .before .before .before .before .before .before .entry-at .ensures) ∙
+    c .before .before .before .before .before .before .next .given .1) in
     let behind-e = readFrom e (drop p s) in
     let scan-on = inv .1 .1 .1 .0 ∙ ap (scanOn count last) (x .reads) ∙ scan-next count last e behind-e in
-    let kept-on : Kept (c .before .before .before .before .found-next .result) = rw (c .before .before .before .before .found-next .ensures) (kept-next best number e (inv .1 .1 .1 .1 .0)) in
-    let find-on = inv .1 .1 .1 .1 .1 .0 ∙ ap (λ y. behind best (foundIn number y)) (x .reads) ∙ find-next best number e behind-e ∙ ap (λ b. behind b (foundIn number behind-e)) (sym (c .before .before .before .before .found-next .ensures)) in
-    (x .inside, (omega (arith, x .on, inv .1 .0), (c .before .before .store-entry .kept .0 ∙ inv .1 .1 .0, (scan-on, (kept-on, (find-on, λ r. storing-next (inv .1 .1 .1 .1 .1 .1 r) x (c .before .before .store-entry .ensures)))))))
+    let kept-on : Kept (c .before .before .before .before .found-next .result) = rw
+    (c .before .before .before .before .found-next .ensures) (kept-next best number e (inv .1 .1 .1 .1 .0)) in
+    let find-on = inv .1 .1 .1 .1 .1 .0 ∙ ap (λ y. behind best (foundIn number y)) (x .reads) ∙ find-next best number e behind-e ∙ ap
+    (λ b. behind b (foundIn number behind-e)) (sym (c .before .before .before .before .found-next .ensures)) in (
+      x .inside,
+      (
+        omega (arith, x .on, inv .1 .0),
+        (
+          c .before .before .store-entry .kept .0 ∙ inv .1 .1 .0,
+          (scan-on, (kept-on, (find-on, λ r. storing-next (inv .1 .1 .1 .1 .1 .1 r) x (c .before .before .store-entry .ensures)))),
+        ),
+      ),
+    )
 
 -- src/reading.rt:167:28
 enum-told : tie.Need-enum-told Inv-loop μ-loop
@@ -100,9 +148,16 @@ same-length c = c .before .before .before .before .before .loop .inv .1 .1 .0
 
 -- src/reading.rt:167:28
 returns : tie.Need-returns Inv-loop μ-loop
-returns c = let last = by (c .before .before .before .before .before .loop .passed) (c .before .before .before .before .before .loop .offset) (c .before .before .before .before .before .loop .bytes) in
-    let none = entered-short (c .before .before .before .before .before .before .before .before .before .args .s .now) (c .before .before .before .before .before .loop .at) last (c .before .before .before .before .loop-test .taken) (sym (c .before .before .before .entry-at .ensures) ∙ c .before .enum-told .given .1) in
-    walked-none (c .before .before .before .before .before .before .before .before .before .args .s .now) (c .before .before .before .before .before .before .before .before .before .args .number) (c .before .before .before .before .before .before .before .before .before .args .out .now) (c .no-index .ensures) (c .before .before .before .before .before .loop .inv .1 .1 .1 .0 ∙ ap (scanOn (c .before .before .before .before .before .loop .count) last) none)
+returns c = let last = by (c .before .before .before .before .before .loop .passed)
+    (c .before .before .before .before .before .loop .offset) (c .before .before .before .before .before .loop .bytes) in
+    let none = entered-short (c .before .before .before .before .before .before .before .before .before .args .s .now)
+    (c .before .before .before .before .before .loop .at) last (c .before .before .before .before .loop-test .taken)
+    (sym (c .before .before .before .entry-at .ensures) ∙ c .before .enum-told .given .1) in
+    walked-none (c .before .before .before .before .before .before .before .before .before .args .s .now)
+    (c .before .before .before .before .before .before .before .before .before .args .number)
+    (c .before .before .before .before .before .before .before .before .before .args .out .now) (c .no-index .ensures)
+    (c .before .before .before .before .before .loop .inv .1 .1 .1 .0 ∙ ap
+    (scanOn (c .before .before .before .before .before .loop .count) last) none)
 
 -- src/reading.rt:168:26
 enum-told-2 : tie.Need-enum-told-2 Inv-loop μ-loop
@@ -118,9 +173,16 @@ same-length-2 c = c .before .before .before .before .before .loop .inv .1 .1 .0
 
 -- src/reading.rt:168:26
 returns-2 : tie.Need-returns-2 Inv-loop μ-loop
-returns-2 c = let last = by (c .before .before .before .before .before .loop .passed) (c .before .before .before .before .before .loop .offset) (c .before .before .before .before .before .loop .bytes) in
-    let none = entered-bad (c .before .before .before .before .before .before .before .before .before .args .s .now) (c .before .before .before .before .before .loop .at) last (sym (c .before .before .before .entry-at .ensures) ∙ c .before .enum-told2 .given .1) in
-    walked-none (c .before .before .before .before .before .before .before .before .before .args .s .now) (c .before .before .before .before .before .before .before .before .before .args .number) (c .before .before .before .before .before .before .before .before .before .args .out .now) (c .no-index2 .ensures) (c .before .before .before .before .before .loop .inv .1 .1 .1 .0 ∙ ap (scanOn (c .before .before .before .before .before .loop .count) last) none)
+returns-2 c = let last = by (c .before .before .before .before .before .loop .passed)
+    (c .before .before .before .before .before .loop .offset) (c .before .before .before .before .before .loop .bytes) in
+    let none = entered-bad (c .before .before .before .before .before .before .before .before .before .args .s .now)
+    (c .before .before .before .before .before .loop .at) last
+    (sym (c .before .before .before .entry-at .ensures) ∙ c .before .enum-told2 .given .1) in
+    walked-none (c .before .before .before .before .before .before .before .before .before .args .s .now)
+    (c .before .before .before .before .before .before .before .before .before .args .number)
+    (c .before .before .before .before .before .before .before .before .before .args .out .now) (c .no-index2 .ensures)
+    (c .before .before .before .before .before .loop .inv .1 .1 .1 .0 ∙ ap
+    (scanOn (c .before .before .before .before .before .loop .count) last) none)
 
 -- src/reading.rt:140:1
 same-length-3 : tie.Need-same-length-3 Inv-loop μ-loop
@@ -137,7 +199,8 @@ returns-3 c = let last = by (c .before .loop .passed) (c .before .loop .offset) 
     let none = entered-none s (c .before .loop .at) last (c .loop-test .left) in
     let goes = scan-end count last ∙ sym (inv .1 .1 .1 .0 ∙ ap (scanOn count last) none) in
     let finds = find-end best (inv .1 .1 .1 .1 .0) number ∙ sym (inv .1 .1 .1 .1 .1 .0 ∙ ap (λ y. behind best (foundIn number y)) none) in
-    walked-all s number (c .before .before .before .before .before .args .out .now) goes finds (λ r. storing-end (inv .1 .1 .1 .1 .1 .1 r) none)
+    walked-all s number (c .before .before .before .before .before .args .out .now) goes finds
+    (λ r. storing-end (inv .1 .1 .1 .1 .1 .1 r) none)
 
 pub walk-spec : {M : Type 1} → statement M
 walk-spec =

@@ -23,7 +23,8 @@ refuse-requires c κs = search needs
 
 -- src/lib.rt:348:9
 returns : tie.Need-returns
-returns c = let a = add-over (c .before .before .before .args .index .now) (c .before .before .before .args .used) (c .before .before .before .args .e) (c .before .if1 .taken) (c .refuse .ensures) in (a .answers, a .leaves)
+returns c = let a = add-over (c .before .before .before .args .index .now) (c .before .before .before .args .used)
+    (c .before .before .before .args .e) (c .before .if1 .taken) (c .refuse .ensures) in (a .answers, a .leaves)
 
 -- src/lib.rt:350:24
 sub-scan : tie.Need-sub-scan
@@ -51,8 +52,16 @@ same-length c = search needs
 
 -- src/lib.rt:352:9
 returns-2 : tie.Need-returns-2
-returns-2 c = let none = scan-none (readIndex (take (c .before .before .before .before .before .before .before .before .args .used) (c .before .before .before .before .before .before .before .before .args .index .now))) (c .before .before .before .scan .result) (scan-front (c .before .before .before .before .before .before .before .before .args .used) (c .before .before .before .before .before .before .before .before .args .index .now) (c .before .before .before .scan .result) (c .before .before .before .scan .ensures)) (not-true _ (c .before .if2 .taken)) in
-    let a = add-none (c .before .before .before .before .before .before .before .before .args .index .now) (c .before .before .before .before .before .before .before .before .args .used) (c .before .before .before .before .before .before .before .before .args .e) (c .before .before .before .before .before .before .if1 .left) none (c .refuse2 .ensures) in
+returns-2 c = let none = scan-none
+    (readIndex (take (c .before .before .before .before .before .before .before .before .args .used)
+    (c .before .before .before .before .before .before .before .before .args .index .now))) (c .before .before .before .scan .result)
+    (scan-front (c .before .before .before .before .before .before .before .before .args .used)
+    (c .before .before .before .before .before .before .before .before .args .index .now) (c .before .before .before .scan .result)
+    (c .before .before .before .scan .ensures)) (not-true _ (c .before .if2 .taken)) in
+    let a = add-none (c .before .before .before .before .before .before .before .before .args .index .now)
+    (c .before .before .before .before .before .before .before .before .args .used)
+    (c .before .before .before .before .before .before .before .before .args .e)
+    (c .before .before .before .before .before .before .if1 .left) none (c .refuse2 .ensures) in
     (a .answers, a .leaves)
 
 -- src/lib.rt:355:9
@@ -69,8 +78,20 @@ same-length-2 c = search needs
 
 -- src/lib.rt:356:9
 returns-3 : tie.Need-returns-3
-returns-3 c = let x = scan-whole (readIndex (take (c .before .before .before .before .before .before .before .before .before .before .before .args .used) (c .before .before .before .before .before .before .before .before .before .before .before .args .index .now))) (c .before .before .before .before .before .before .scan .result) (scan-front (c .before .before .before .before .before .before .before .before .before .before .before .args .used) (c .before .before .before .before .before .before .before .before .before .before .before .args .index .now) (c .before .before .before .before .before .before .scan .result) (c .before .before .before .before .before .before .scan .ensures)) (not-false _ (c .before .before .before .before .if2 .left)) in
-    let a = add-unfit (c .before .before .before .before .before .before .before .before .before .before .before .args .index .now) (c .before .before .before .before .before .before .before .before .before .before .before .args .used) (c .before .before .before .before .before .before .before .before .before .before .before .args .e) (c .before .before .before .before .before .before .before .before .before .if1 .left) (x .reads) (c .before .before .before .before .before .before .scan .result .last) (x .last) (sym (c .before .before .fits2 .ensures) ∙ not-true _ (c .before .if3 .taken)) (c .refuse3 .ensures) in
+returns-3 c = let x = scan-whole
+    (readIndex (take (c .before .before .before .before .before .before .before .before .before .before .before .args .used)
+    (c .before .before .before .before .before .before .before .before .before .before .before .args .index .now)))
+    (c .before .before .before .before .before .before .scan .result)
+    (scan-front (c .before .before .before .before .before .before .before .before .before .before .before .args .used)
+    (c .before .before .before .before .before .before .before .before .before .before .before .args .index .now)
+    (c .before .before .before .before .before .before .scan .result) (c .before .before .before .before .before .before .scan .ensures))
+    (not-false _ (c .before .before .before .before .if2 .left)) in
+    let a = add-unfit (c .before .before .before .before .before .before .before .before .before .before .before .args .index .now)
+    (c .before .before .before .before .before .before .before .before .before .before .before .args .used)
+    (c .before .before .before .before .before .before .before .before .before .before .before .args .e)
+    (c .before .before .before .before .before .before .before .before .before .if1 .left) (x .reads)
+    (c .before .before .before .before .before .before .scan .result .last) (x .last)
+    (sym (c .before .before .fits2 .ensures) ∙ not-true _ (c .before .if3 .taken)) (c .refuse3 .ensures) in
     (a .answers, a .leaves)
 
 -- src/lib.rt:358:9
@@ -91,8 +112,22 @@ same-length-3 c = search needs
 
 -- src/lib.rt:360:9
 returns-4 : tie.Need-returns-4
-returns-4 c = let x = scan-whole (readIndex (take (c .before .before .before .before .before .before .before .before .before .before .before .before .before .args .used) (c .before .before .before .before .before .before .before .before .before .before .before .before .before .args .index .now))) (c .before .before .before .before .before .before .before .before .scan .result) (scan-front (c .before .before .before .before .before .before .before .before .before .before .before .before .before .args .used) (c .before .before .before .before .before .before .before .before .before .before .before .before .before .args .index .now) (c .before .before .before .before .before .before .before .before .scan .result) (c .before .before .before .before .before .before .before .before .scan .ensures)) (not-false _ (c .before .before .before .before .before .before .if2 .left)) in
-    let a = add-full (c .before .before .before .before .before .before .before .before .before .before .before .before .before .args .index .now) (c .before .before .before .before .before .before .before .before .before .before .before .before .before .args .used) (c .before .before .before .before .before .before .before .before .before .before .before .before .before .args .e) (c .before .before .before .before .before .before .before .before .before .before .before .if1 .left) (x .reads) (c .before .before .before .before .before .before .before .before .scan .result .last) (x .last) (sym (c .before .before .before .before .fits2 .ensures) ∙ not-false _ (c .before .before .before .if3 .left)) (c .before .before .size .result) (c .before .before .size .ensures) (c .before .if4 .taken) (c .refuse4 .ensures) in
+returns-4 c = let x = scan-whole
+    (readIndex (take (c .before .before .before .before .before .before .before .before .before .before .before .before .before .args
+    .used) (c .before .before .before .before .before .before .before .before .before .before .before .before .before .args .index
+    .now))) (c .before .before .before .before .before .before .before .before .scan .result)
+    (scan-front (c .before .before .before .before .before .before .before .before .before .before .before .before .before .args
+    .used) (c .before .before .before .before .before .before .before .before .before .before .before .before .before .args .index
+    .now) (c .before .before .before .before .before .before .before .before .scan .result)
+    (c .before .before .before .before .before .before .before .before .scan .ensures))
+    (not-false _ (c .before .before .before .before .before .before .if2 .left)) in
+    let a = add-full (c .before .before .before .before .before .before .before .before .before .before .before .before .before .args
+    .index .now) (c .before .before .before .before .before .before .before .before .before .before .before .before .before .args
+    .used) (c .before .before .before .before .before .before .before .before .before .before .before .before .before .args .e)
+    (c .before .before .before .before .before .before .before .before .before .before .before .if1 .left) (x .reads)
+    (c .before .before .before .before .before .before .before .before .scan .result .last) (x .last)
+    (sym (c .before .before .before .before .fits2 .ensures) ∙ not-false _ (c .before .before .before .if3 .left))
+    (c .before .before .size .result) (c .before .before .size .ensures) (c .before .if4 .taken) (c .refuse4 .ensures) in
     (a .answers, a .leaves)
 
 -- src/lib.rt:362:5
@@ -113,8 +148,29 @@ same-length-4 c = search needs
 
 -- src/lib.rt:343:1
 returns-5 : tie.Need-returns-5
-returns-5 c = let x = scan-whole (readIndex (take (c .before .before .before .before .before .before .before .before .before .before .before .before .before .before .before .before .before .args .used) (c .before .before .before .before .before .before .before .before .before .before .before .before .before .before .before .before .before .args .index .now))) (c .before .before .before .before .before .before .before .before .before .before .before .before .scan .result) (scan-front (c .before .before .before .before .before .before .before .before .before .before .before .before .before .before .before .before .before .args .used) (c .before .before .before .before .before .before .before .before .before .before .before .before .before .before .before .before .before .args .index .now) (c .before .before .before .before .before .before .before .before .before .before .before .before .scan .result) (c .before .before .before .before .before .before .before .before .before .before .before .before .scan .ensures)) (not-false _ (c .before .before .before .before .before .before .before .before .before .before .if2 .left)) in
-    let a = add-all (c .before .before .before .before .before .before .before .before .before .before .before .before .before .before .before .before .before .args .index .now) (c .before .before .before .before .before .before .before .before .before .before .before .before .before .before .before .before .before .args .used) (c .before .before .before .before .before .before .before .before .before .before .before .before .before .before .before .before .before .args .e) (c .before .before .before .before .before .before .before .before .before .before .before .before .before .before .before .if1 .left) (x .reads) (c .before .before .before .before .before .before .before .before .before .before .before .before .scan .result .last) (x .last) (sym (c .before .before .before .before .before .before .before .before .fits2 .ensures) ∙ not-false _ (c .before .before .before .before .before .before .before .if3 .left)) (c .before .before .before .before .before .before .size .result) (c .before .before .before .before .before .before .size .ensures) (c .before .before .before .before .before .if4 .left) (c .before .before .before .put-entry .ensures) (c .wrote .ensures) in
+returns-5 c = let x = scan-whole
+    (readIndex (take (c .before .before .before .before .before .before .before .before .before .before .before .before .before .before
+    .before .before .before .args .used)
+    (c .before .before .before .before .before .before .before .before .before .before .before .before .before .before .before .before
+    .before .args .index .now))) (c .before .before .before .before .before .before .before .before .before .before .before .before
+    .scan .result) (scan-front (c .before .before .before .before .before .before .before .before .before .before .before .before
+    .before .before .before .before .before .args .used)
+    (c .before .before .before .before .before .before .before .before .before .before .before .before .before .before .before .before
+    .before .args .index .now) (c .before .before .before .before .before .before .before .before .before .before .before .before
+    .scan .result) (c .before .before .before .before .before .before .before .before .before .before .before .before .scan .ensures))
+    (not-false _ (c .before .before .before .before .before .before .before .before .before .before .if2 .left)) in
+    let a = add-all (c .before .before .before .before .before .before .before .before .before .before .before .before .before .before
+    .before .before .before .args .index .now)
+    (c .before .before .before .before .before .before .before .before .before .before .before .before .before .before .before .before
+    .before .args .used) (c .before .before .before .before .before .before .before .before .before .before .before .before .before
+    .before .before .before .before .args .e)
+    (c .before .before .before .before .before .before .before .before .before .before .before .before .before .before .before .if1
+    .left) (x .reads) (c .before .before .before .before .before .before .before .before .before .before .before .before .scan .result
+    .last) (x .last) (sym (c .before .before .before .before .before .before .before .before .fits2 .ensures) ∙ not-false _
+    (c .before .before .before .before .before .before .before .if3 .left))
+    (c .before .before .before .before .before .before .size .result)
+    (c .before .before .before .before .before .before .size .ensures) (c .before .before .before .before .before .if4 .left)
+    (c .before .before .before .put-entry .ensures) (c .wrote .ensures) in
     (a .answers, a .leaves)
 
 pub add-spec : {M : Type 1} → statement M

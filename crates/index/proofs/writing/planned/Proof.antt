@@ -33,7 +33,11 @@ origin-requires c κs = tt
 
 -- src/lib.rt:397:5
 loop-holds : tie.Need-loop-holds Inv-loop μ-loop
-loop-holds c = (omega arith, rw (c .origin .ensures) (planning-start (c .before .before .args .entries .now) (c .before .before .args .room)))
+loop-holds c = (
+  omega arith,
+  rw (c .origin .ensures)
+      (planning-start (c .before .before .args .entries .now) (c .before .before .args .room)),
+)
 
 -- src/lib.rt:397:16
 sub-loop : tie.Need-sub-loop Inv-loop μ-loop
@@ -53,7 +57,8 @@ refuse-requires c κs = tt
 
 -- src/lib.rt:400:13
 returns : tie.Need-returns Inv-loop μ-loop
-returns c = c .refuse .ensures ∙ planned-unfit (c .before .before .before .before .before .loop .inv .1) (omega arith) (c .before .before .before .three .ensures) (sym (c .before .before .fits2 .ensures) ∙ not-true _ (c .before .if1 .taken))
+returns c = c .refuse .ensures ∙ planned-unfit (c .before .before .before .before .before .loop .inv .1) (omega arith)
+    (c .before .before .before .three .ensures) (sym (c .before .before .fits2 .ensures) ∙ not-true _ (c .before .if1 .taken))
 
 -- src/lib.rt:402:13
 size-requires : tie.Need-size-requires Inv-loop μ-loop
@@ -65,7 +70,14 @@ sub-enough c = c .before .before .before .before .before .loop .inv .1 .within
 
 -- src/lib.rt:405:13
 add-used : tie.Need-add-used Inv-loop μ-loop
-add-used c = omega (arith, c .before .before .before .before .before .before .loop .inv .1 .within, leb-true (c .before .size .result) (c .before .before .before .before .before .before .before .before .before .args .room - c .before .before .before .before .before .before .loop .used) (and-right (c .before .before .before .before .before .before .loop .enough) _ (c .if2 .taken)))
+add-used c = omega (
+  arith,
+  c .before .before .before .before .before .before .loop .inv .1 .within,
+  leb-true (c .before .size .result)
+      (c .before .before .before .before .before .before .before .before .before .args .room -
+      c .before .before .before .before .before .before .loop .used)
+      (and-right (c .before .before .before .before .before .before .loop .enough) _ (c .if2 .taken)),
+)
 
 -- src/lib.rt:408:9
 add-i : tie.Need-add-i Inv-loop μ-loop
@@ -77,8 +89,15 @@ loop-less c = omega arith
 
 -- src/lib.rt:397:5
 loop-again : tie.Need-loop-again Inv-loop μ-loop
-loop-again c = let f = sym (c .before .before .before .fits2 .ensures) ∙ not-false _ (c .before .before .if1 .left) in
-    (omega arith, ⊎-elim (λ w. planning-next (c .before .before .before .before .before .before .loop .inv .1) (omega arith) (c .before .before .before .before .three .ensures) f (c .before .size .ensures) refl (λ t. w .1) (λ t. absurd (true-false (w .0 .taken) t))) (λ w. planning-next (c .before .before .before .before .before .before .loop .inv .1) (omega arith) (c .before .before .before .before .three .ensures) f (c .before .size .ensures) refl (λ t. absurd (true-false t (w .0 .left))) (λ t. w .1)) (c .if2 .came))
+loop-again c = let f = sym (c .before .before .before .fits2 .ensures) ∙ not-false _ (c .before .before .if1 .left) in (
+  omega arith,
+  ⊎-elim (λ w. planning-next (c .before .before .before .before .before .before .loop .inv .1) (omega arith)
+      (c .before .before .before .before .three .ensures) f (c .before .size .ensures) refl (λ t. w .1)
+      (λ t. absurd (true-false (w .0 .taken) t)))
+      (λ w. planning-next (c .before .before .before .before .before .before .loop .inv .1) (omega arith)
+      (c .before .before .before .before .three .ensures) f (c .before .size .ensures) refl (λ t. absurd (true-false t (w .0 .left)))
+      (λ t. w .1)) (c .if2 .came),
+)
 
 -- src/lib.rt:411:9
 refuse-requires-2 : tie.Need-refuse-requires-2 Inv-loop μ-loop
@@ -86,7 +105,8 @@ refuse-requires-2 c κs = tt
 
 -- src/lib.rt:411:9
 returns-2 : tie.Need-returns-2 Inv-loop μ-loop
-returns-2 c = c .refuse2 .ensures ∙ planned-threes (c .before .before .before .loop .inv .1) (omega arith) (c .before .before .before .loop .inv .0) (c .before .if3 .taken)
+returns-2 c = c .refuse2 .ensures ∙ planned-threes (c .before .before .before .loop .inv .1) (omega arith)
+    (c .before .before .before .loop .inv .0) (c .before .if3 .taken)
 
 -- src/lib.rt:414:9
 refuse-requires-3 : tie.Need-refuse-requires-3 Inv-loop μ-loop
@@ -94,7 +114,8 @@ refuse-requires-3 c κs = tt
 
 -- src/lib.rt:414:9
 returns-3 : tie.Need-returns-3 Inv-loop μ-loop
-returns-3 c = c .refuse3 .ensures ∙ planned-full (c .before .before .before .before .loop .inv .1) (c .before .before .if3 .left) (not-true _ (c .before .if4 .taken))
+returns-3 c = c .refuse3 .ensures ∙ planned-full (c .before .before .before .before .loop .inv .1) (c .before .before .if3 .left)
+    (not-true _ (c .before .if4 .taken))
 
 -- src/lib.rt:416:5
 wrote-requires : tie.Need-wrote-requires Inv-loop μ-loop
@@ -102,7 +123,8 @@ wrote-requires c κs = tt
 
 -- src/lib.rt:390:1
 returns-4 : tie.Need-returns-4 Inv-loop μ-loop
-returns-4 c = c .wrote .ensures ∙ planned-all (c .before .before .before .before .loop .inv .1) (c .before .before .if3 .left) (not-false _ (c .before .if4 .left))
+returns-4 c = c .wrote .ensures ∙ planned-all (c .before .before .before .before .loop .inv .1) (c .before .before .if3 .left)
+    (not-false _ (c .before .if4 .left))
 
 pub planned-spec : {M : Type 1} → statement M
 planned-spec =

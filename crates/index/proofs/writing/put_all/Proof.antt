@@ -19,7 +19,9 @@ use Rattle.index.proofs.put_entry.Reads as put-entry-reads
 use Rattle.index.proofs.writing.three.Reads as three-reads
 
 abbrev Inv-loop : tie.InvT-loop
-Inv-loop out₀ entries last₀ i₀ place₀ out last i place = (i ≤ length entries) × ((length out ≡ length out₀) × (wrote (held place out) (bytesFrom last (entriesOf (drop i entries))) ≡ wrote (held 0 out₀) (indexBytes (entriesOf entries))))
+Inv-loop out₀ entries last₀ i₀ place₀ out last i place = (i ≤ length entries) ×
+    ((length out ≡ length out₀) × (wrote (held place out) (bytesFrom last (entriesOf (drop i entries))) ≡ wrote (held 0 out₀)
+    (indexBytes (entriesOf entries))))
 
 abbrev μ-loop : tie.MeasureT-loop
 μ-loop out₀ entries last₀ i₀ place₀ out last i place = length entries - i
@@ -54,8 +56,17 @@ loop-less c = omega arith
 
 -- src/lib.rt:426:5
 loop-again : tie.Need-loop-again Inv-loop μ-loop
-loop-again c = let e = c .before .before .before .before .three .ensures in
-    (omega arith, (c .before .before .put-entry .kept .0 ∙ c .before .before .before .before .before .before .loop .inv .1 .0, rw e (put-next (c .before .before .before .before .before .before .before .before .before .before .args .entries .now) (c .before .before .before .before .before .before .loop .i) (c .before .before .before .before .before .before .loop .last) (omega arith) (rw e at (c .before .before .put-entry .ensures))) ∙ c .before .before .before .before .before .before .loop .inv .1 .1))
+loop-again c = let e = c .before .before .before .before .three .ensures in (
+  omega arith,
+  (
+    c .before .before .put-entry .kept .0 ∙ c .before .before .before .before .before .before .loop .inv .1 .0,
+    rw e
+        (put-next (c .before .before .before .before .before .before .before .before .before .before .args .entries .now)
+        (c .before .before .before .before .before .before .loop .i) (c .before .before .before .before .before .before .loop .last)
+        (omega arith) (rw e at (c .before .before .put-entry .ensures))) ∙
+        c .before .before .before .before .before .before .loop .inv .1 .1,
+  ),
+)
 
 -- src/lib.rt:420:1
 same-length : tie.Need-same-length Inv-loop μ-loop
@@ -63,7 +74,10 @@ same-length c = c .before .loop .inv .1 .0
 
 -- src/lib.rt:420:1
 returns : tie.Need-returns Inv-loop μ-loop
-returns c = record { is = put-end (c .before .before .before .before .before .args .entries .now) (c .before .loop .i) (c .before .loop .last) (held (c .before .loop .place) (c .before .loop .out)) (omega arith) ∙ c .before .loop .inv .1 .1 }
+returns c = record {
+  is = put-end (c .before .before .before .before .before .args .entries .now) (c .before .loop .i)
+      (c .before .loop .last) (held (c .before .loop .place) (c .before .loop .out)) (omega arith) ∙ c .before .loop .inv .1 .1;
+}
 
 pub put-all-spec : {M : Type 1} → statement M
 put-all-spec =

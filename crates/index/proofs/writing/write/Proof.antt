@@ -22,11 +22,15 @@ same-length c = search needs
 
 -- src/lib.rt:437:1
 returns : tie.Need-returns
-returns c = write-all (c .before .before .before .before .before .before .before .before .before .args .entries .now) (c .before .before .before .before .before .before .before .before .before .args .out .now) (c .before .before .before .before .before .before .planned .ensures) (c .before .before .before .before .if1 .taken) (c .before .before .put-all .ensures)
+returns c = write-all (c .before .before .before .before .before .before .before .before .before .args .entries .now)
+    (c .before .before .before .before .before .before .before .before .before .args .out .now)
+    (c .before .before .before .before .before .before .planned .ensures) (c .before .before .before .before .if1 .taken)
+    (c .before .before .put-all .ensures)
 
 -- src/lib.rt:437:1
 returns-2 : tie.Need-returns-2
-returns-2 c = write-refused (c .before .before .before .before .before .args .entries .now) (c .before .before .before .before .before .args .out .now) (c .before .before .planned .ensures) (c .if1 .left)
+returns-2 c = write-refused (c .before .before .before .before .before .args .entries .now)
+    (c .before .before .before .before .before .args .out .now) (c .before .before .planned .ensures) (c .if1 .left)
 
 pub write-spec : {M : Type 1} → statement M
 write-spec = tie.close (tie.spec planned-requires put-all-requires same-length returns returns-2)
