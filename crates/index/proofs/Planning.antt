@@ -1,5 +1,5 @@
--- What writing comes to, entry by entry: the order of the rest decides the order of all; the bytes counted so far and those of the rest are all
--- of them, as long as there was room.
+-- What writing comes to, entry by entry: the order of the rest decides the order of all; the bytes counted so far and those of the rest are
+-- all of them, as long as there was room.
 use Prim.Native.Nat.{ℕ, zero, suc, _+_, _-_, _%_, _≤_, _<_}
 use mathlib.Core.Path.{_≡_, refl, sym, ap, _∙_}
 use mathlib.Core.Bool.{Bool, true, false, _&&_}

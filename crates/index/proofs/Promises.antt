@@ -1,5 +1,5 @@
--- The index beside a log, from the contracts of its functions: what is written reads back, what is found is the entry with that number, what
--- is added stands behind what was there, and numbers ascend. Each from the laws of crate index, by going along the entries.
+-- The index beside a log, from what its functions answer: what is written reads back, what is found is the entry with that number, what is
+-- added stands behind what was there, and numbers ascend. Each from the laws of lists of entries, by going along them.
 use Prim.Native.Nat.{ℕ, zero, suc, _+_, _-_, _%_, _≤_, _<_}
 use mathlib.Core.Path.{_≡_, refl, sym, ap, _∙_}
 use mathlib.Core.Bool.{Bool, true, false, cond, _&&_}
