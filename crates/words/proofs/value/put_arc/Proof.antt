@@ -1,0 +1,21 @@
+-- Minutes, the point, four digits.
+use Rattle.put.proofs.Chain.{_⨾_}
+use Rattle.words.specs.Values.{arcWords}
+use borrow.Author.Needs.{needs}
+use Rattle.words.proofs.value.put_arc.Statement.{statement}
+use Rattle.words.proofs.value.put_arc.Tie as tie
+
+returns : tie.Need-returns
+unfolding arcWords
+returns c = c .before .before .before .before .before .before .before .before .before .before .put-number .ensures ⨾ (c .before .before .before .before .before .before .put .ensures ⨾ c .before .before .put-four .ensures)
+
+pub put-arc-spec : {M : Type 1} → statement M
+put-arc-spec =
+    tie.close
+    (tie.spec
+    (λ c. search needs)
+    (λ c κs. search needs)
+    (λ c κs. search needs)
+    (λ c κs. search needs)
+    (λ c. search needs)
+    returns)

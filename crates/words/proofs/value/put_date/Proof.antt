@@ -1,0 +1,22 @@
+-- Year, month, day.
+use Rattle.put.proofs.Chain.{_⨾_}
+use Rattle.words.specs.Values.{dateWords}
+use borrow.Author.Needs.{needs}
+use Rattle.words.proofs.value.put_date.Statement.{statement}
+use Rattle.words.proofs.value.put_date.Tie as tie
+
+returns : tie.Need-returns
+unfolding dateWords
+returns c = c .before .before .before .before .before .before .before .before .before .before .before .before .before .before .before .before .before .before .put-four .ensures ⨾ (c .before .before .before .before .before .before .before .before .before .before .before .before .before .before .put .ensures ⨾ c .before .before .before .before .before .before .before .before .before .before .put-two .ensures) ⨾ (c .before .before .before .before .before .before .put2 .ensures ⨾ c .before .before .put-two2 .ensures)
+
+pub put-date-spec : {M : Type 1} → statement M
+put-date-spec =
+    tie.close
+    (tie.spec
+    (λ c κs. search needs)
+    (λ c κs. search needs)
+    (λ c κs. search needs)
+    (λ c κs. search needs)
+    (λ c κs. search needs)
+    (λ c. search needs)
+    returns)

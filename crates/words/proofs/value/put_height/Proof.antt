@@ -1,0 +1,22 @@
+-- The sign, then the number.
+use Rattle.put.proofs.Chain.{_⨾_}
+use Rattle.words.specs.Values.{heightWords}
+use borrow.Author.Needs.{needs}
+use Rattle.words.proofs.value.put_height.Statement.{statement}
+use Rattle.words.proofs.value.put_height.Tie as tie
+
+returns : tie.Need-returns
+unfolding heightWords
+returns c = c .before .before .before .before .before .before .put-side .ensures ⨾ (rw (c .before .before .before .before .before .before .before .before .before .before .size .ensures) at (c .before .before .put-number .ensures))
+
+pub put-height-spec : {M : Type 1} → statement M
+put-height-spec =
+    tie.close
+    (tie.spec
+    (λ c κs. search needs)
+    (λ c. search needs)
+    (λ c. search needs)
+    (λ c κs. search needs)
+    (λ c κs. search needs)
+    (λ c. search needs)
+    returns)
