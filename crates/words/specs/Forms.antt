@@ -27,7 +27,7 @@ codeText f v =
     (cond (is "s" f) (letterMeant (ascii "AV") (ascii " valid; not valid") v)
     (cond (is "m" f) (letterMeant (ascii "ADEMSN") (ascii " autonomous; differential; estimated; manual; simulator; not valid") v)
     (cond (is "a" f) (letterMeant (ascii "MA") (ascii " manual; automatic") v)
-    (cond (is "q" f) (numberMeant (ascii " no fix; fix; differential fix; precise fix; real-time kinematic fix; floating kinematic fix; estimated; manual; simulator") v)
+    (cond (is "q" f) (numberMeant (ascii " no fix; standard fix; differential fix; precise fix; real-time kinematic fix; floating kinematic fix; estimated; manual; simulator") v)
     (cond (is "f" f) (numberMeant (ascii "; no fix; two dimensions; three dimensions") v) [])))))))
 
 -- Numbers, angles, times: u, and of a position and a date also v and w.

@@ -32,7 +32,7 @@ fn put_code(out: &mut [u8], at: usize, f: u8, v: u32) -> usize
             out,
             at,
             v,
-            b" no fix; fix; differential fix; precise fix; real-time kinematic fix; floating kinematic fix; estimated; manual; simulator",
+            b" no fix; standard fix; differential fix; precise fix; real-time kinematic fix; floating kinematic fix; estimated; manual; simulator",
         );
     }
     if f == b'f' {

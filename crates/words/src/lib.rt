@@ -92,7 +92,7 @@ pub fn put_refusal(out: &mut [u8], at: usize, no: u8) -> usize
 {
     let refusals = b"\
         ;the line rule fails, or a written line would pass 82 bytes;the two digits differ from the XOR of the body\
-        ;the address is unknown;the kind does not have so many fields;a field or a value is not of its form or range\
+        ;the address is unknown;the kind does not have so many fields;a field is not of its form or range, or a value of a record is outside its range\
         ;a line does not go with its group;a satellite is repeated in its group;the output is shorter than what would be written\
         ;the sentence is not a command;the protocol of the port is not 4;the bytes are no index;no exhibit has that number";
     put::put_bytes(out, at, nth::nth_of(refusals, no as usize))
