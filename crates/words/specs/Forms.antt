@@ -2,45 +2,59 @@
 -- before its numbers; the capital is the same value where it is always there.
 use Prim.Native.Nat.{ℕ, _+_}
 use Prim.Native.Char.{Char, code}
-use mathlib.Core.List.{List, []}
+use mathlib.Core.List.{List, [], _++_}
 use mathlib.Core.Bool.{Bool, cond, _||_}
 use lib.Dec.{eqb, ltb}
 use lib.ListN.{getD}
 use mir.Syntax.{w32}
 use mir.Val.{toZ}
 use Rattle.digits.specs.Ascii.{ascii}
+use Rattle.digits.specs.Decimal.{findIn}
 use Rattle.forms.specs.Plain.{numberText}
 use Rattle.masks.specs.Masks.{printHex}
 use Rattle.slots.specs.Slots.{isThere}
 use Rattle.text.specs.Numbers.{decimalText}
-use Rattle.words.specs.Values.{clockWords, dateWords, zoneWords, placeWords, heightWords, variationWords, numberMeant, letterMeant}
+use Rattle.words.specs.Nth.{nth}
+use Rattle.words.specs.Values.{clockWords, dateWords, zoneWords, placeWords, heightWords, variationWords, meantWords}
 
 abbrev pub is : Char → ℕ → Bool
 is letter f = eqb f (code letter)
 
--- Masks in capital hex digits, and letters and digits with what they mean.
+-- How many hex digits a mask has: of a port, of GLONASS and of GPS satellites; no other form has any.
+unfoldable pub widthOf : ℕ → ℕ
+widthOf f = cond (is "x" f) 4 (cond (is "r" f) 6 (cond (is "g" f) 8 0))
+
+-- Status, mode, selection, quality and fix: their letters, and what each means, in the order of `smaqf`.
+abbrev pub letterSets : List ℕ
+letterSets = ascii "AV;ADEMSN;MA;012345678;0123"
+
+abbrev pub meaningSets : List ℕ
+meaningSets =
+    ascii " valid, not valid; autonomous, differential, estimated, manual, simulator, not valid; manual, automatic"
+    ++ ascii "; no fix, standard fix, differential fix, precise fix, real-time kinematic fix, floating kinematic fix"
+    ++ ascii ", estimated, manual, simulator;, no fix, two dimensions, three dimensions"
+
 unfoldable pub codeText : ℕ → ℕ → List ℕ
 codeText f v =
-    cond (is "x" f) (printHex 4 v)
-    (cond (is "r" f) (printHex 6 v)
-    (cond (is "g" f) (printHex 8 v)
-    (cond (is "s" f) (letterMeant (ascii "AV") (ascii " valid; not valid") v)
-    (cond (is "m" f) (letterMeant (ascii "ADEMSN") (ascii " autonomous; differential; estimated; manual; simulator; not valid") v)
-    (cond (is "a" f) (letterMeant (ascii "MA") (ascii " manual; automatic") v)
-    (cond (is "q" f) (numberMeant (ascii " no fix; standard fix; differential fix; precise fix; real-time kinematic fix; floating kinematic fix; estimated; manual; simulator") v)
-    (cond (is "f" f) (numberMeant (ascii "; no fix; two dimensions; three dimensions") v) [])))))))
+    cond (eqb (widthOf f) 0)
+    (meantWords (nth 59 (findIn f (ascii "smaqf")) letterSets) (nth 59 (findIn f (ascii "smaqf")) meaningSets) v)
+    (printHex (widthOf f) v)
 
--- Numbers, angles, times: u, and of a position and a date also v and w.
+-- Signed values: a height, a variation and a zone.
+unfoldable pub signedText : ℕ → ℕ → List ℕ
+signedText f v =
+    cond (is "h" f) (heightWords (toZ w32 v))
+    (cond (is "v" f) (variationWords (toZ w32 v))
+    (cond (is "z" f) (zoneWords (toZ w32 v)) (codeText f v)))
+
+-- A whole number, a number in thousandths, a time, a date of day u, month v and year w, a position of latitude u and longitude v.
 unfoldable pub formText : ℕ → ℕ → ℕ → ℕ → List ℕ
 formText f u v w =
     cond (is "n" f) (decimalText u)
     (cond (is "k" f) (numberText u)
-    (cond (is "h" f) (heightWords (toZ w32 u))
-    (cond (is "v" f) (variationWords (toZ w32 u))
-    (cond (is "z" f) (zoneWords (toZ w32 u))
     (cond (is "t" f) (clockWords u)
     (cond (is "d" f) (dateWords u v w)
-    (cond (is "p" f) (placeWords (toZ w32 u) (toZ w32 v)) (codeText f u))))))))
+    (cond (is "p" f) (placeWords (toZ w32 u) (toZ w32 v)) (signedText f u)))))
 
 -- How many marks stand before the numbers of a value, and how many numbers it takes with its mark.
 unfoldable pub marksOf : ℕ → ℕ

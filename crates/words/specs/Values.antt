@@ -1,24 +1,32 @@
 -- The values of a record in words.
-use Prim.Native.Nat.{ℕ, _/_, _%_}
+use Prim.Native.Nat.{ℕ, _+_, _/_, _%_}
 use mathlib.Core.List.{List, [], _∷_, _++_}
-use mathlib.Core.Bool.{cond}
-use lib.Dec.{eqb}
-use lib.IntN.{ℤ, natAbs}
+use mathlib.Core.Bool.{Bool, cond}
+use lib.Dec.{eqb, ltb}
+use lib.IntN.{ℤ, pos, natAbs}
+use lib.Signed.{ltZ}
 use Rattle.digits.specs.Ascii.{ascii}
 use Rattle.digits.specs.Decimal.{printFixed, findIn}
 use Rattle.forms.specs.Plain.{numberText}
 use Rattle.text.specs.Numbers.{decimalText}
-use Rattle.texts.specs.Texts.{sideText}
 use Rattle.words.specs.Nth.{nth}
 
--- `1 hour`, `13 hours`
-unfoldable pub counted : ℕ → List ℕ → List ℕ
-counted n word = decimalText n ++ (32 ∷ word) ++ cond (eqb n 1) [] (ascii "s")
+-- The one text or the other.
+abbrev pub either : Bool → List ℕ → List ℕ → List ℕ
+either b s t = cond b s t
+
+abbrev pub isMinus : ℤ → Bool
+isMinus z = ltZ z (pos 0)
+
+-- `1 hour`, `13 hours`: a number and the word behind it, for one and for all others.
+unfoldable pub counted : ℕ → List ℕ → List ℕ → List ℕ
+counted n one many = decimalText n ++ either (eqb n 1) one many
 
 -- `07:51:40.00`: a time in hundredths of a second.
 unfoldable pub clockWords : ℕ → List ℕ
 clockWords v =
-    printFixed 2 (v / 360000) ++ (58 ∷ printFixed 2 (v / 6000 % 60)) ++ (58 ∷ printFixed 2 (v / 100 % 60)) ++ (46 ∷ printFixed 2 (v % 100))
+    printFixed 2 (v / 360000)
+    ++ (58 ∷ printFixed 2 (v / 6000 % 60)) ++ (58 ∷ printFixed 2 (v / 100 % 60)) ++ (46 ∷ printFixed 2 (v % 100))
 
 -- `2026-11-15`
 unfoldable pub dateWords : ℕ → ℕ → ℕ → List ℕ
@@ -26,35 +34,36 @@ dateWords day month year = printFixed 4 year ++ (45 ∷ printFixed 2 month) ++ (
 
 -- `minus 30 minutes`, `13 hours 59 minutes`: a zone in minutes; hours are said only where there are any.
 unfoldable pub hoursWords : ℕ → List ℕ
-hoursWords n = cond (eqb n 0) [] (counted n (ascii "hour") ++ (32 ∷ []))
+hoursWords n = cond (eqb n 0) [] (counted n (ascii " hour ") (ascii " hours "))
 
 unfoldable pub zoneWords : ℤ → List ℕ
-zoneWords z = sideText [] (ascii "minus ") z ++ hoursWords (natAbs z / 60) ++ counted (natAbs z % 60) (ascii "minute")
+zoneWords z =
+    either (isMinus z) (ascii "minus ") [] ++ hoursWords (natAbs z / 60) ++ counted (natAbs z % 60) (ascii " minute") (ascii " minutes")
 
--- `50.6111`: the minutes of an angle in ten-thousandths of a minute.
-unfoldable pub arcWords : ℕ → List ℕ
-arcWords v = decimalText (v / 10000 % 60) ++ (46 ∷ printFixed 4 (v % 10000))
+-- `55 degrees 50.6111`: an angle in ten-thousandths of a minute.
+unfoldable pub angleWords : ℕ → List ℕ
+angleWords v =
+    counted (v / 600000) (ascii " degree ") (ascii " degrees ") ++ decimalText (v / 10000 % 60) ++ (46 ∷ printFixed 4 (v % 10000))
 
--- `55 degrees 50.6111 minutes north`; zero is on the first side.
-unfoldable pub angleWords : List ℕ → List ℕ → ℤ → List ℕ
-angleWords plus minus z =
-    counted (natAbs z / 600000) (ascii "degree") ++ (32 ∷ arcWords (natAbs z)) ++ ascii " minutes " ++ sideText plus minus z
-
+-- `55 degrees 50.6111 minutes north, 37 degrees 32.2534 minutes east`; zero is north and east.
 unfoldable pub placeWords : ℤ → ℤ → List ℕ
-placeWords lat lon = angleWords (ascii "north") (ascii "south") lat ++ ascii ", " ++ angleWords (ascii "east") (ascii "west") lon
+placeWords lat lon =
+    angleWords (natAbs lat) ++ either (isMinus lat) (ascii " minutes south, ") (ascii " minutes north, ")
+    ++ angleWords (natAbs lon) ++ either (isMinus lon) (ascii " minutes west") (ascii " minutes east")
 
 -- `-12.5`: a height in thousandths.
 unfoldable pub heightWords : ℤ → List ℕ
-heightWords z = sideText [] (ascii "-") z ++ numberText (natAbs z)
+heightWords z = either (isMinus z) (ascii "-") [] ++ numberText (natAbs z)
 
 -- `5.2 degrees west`: a variation in thousandths of a degree.
 unfoldable pub variationWords : ℤ → List ℕ
-variationWords z = numberText (natAbs z) ++ ascii " degrees " ++ sideText (ascii "east") (ascii "west") z
+variationWords z = numberText (natAbs z) ++ either (isMinus z) (ascii " degrees west") (ascii " degrees east")
 
--- `1 fix`: a number and what it means, by the texts of the meanings from 0 on; a number without a meaning stands alone.
-unfoldable pub numberMeant : List ℕ → ℕ → List ℕ
-numberMeant meanings n = decimalText n ++ nth n meanings
+-- A digit or a letter as a record holds it, by its value or its byte, as it stands in a line.
+unfoldable pub byteOf : ℕ → ℕ
+byteOf v = cond (ltb v 10) (v + 48) (v % 256)
 
--- `A autonomous`: a letter, as its byte, and what it means, by the letters and their meanings in the same order.
-unfoldable pub letterMeant : List ℕ → List ℕ → ℕ → List ℕ
-letterMeant letters meanings v = (v % 256 ∷ []) ++ nth (findIn (v % 256) letters) meanings
+-- `A autonomous`: a digit or letter and what it means, by the letters and their meanings in the same order; one without a meaning stands
+-- alone.
+unfoldable pub meantWords : List ℕ → List ℕ → ℕ → List ℕ
+meantWords letters meanings v = (byteOf v ∷ []) ++ nth 44 (findIn (byteOf v) letters) meanings

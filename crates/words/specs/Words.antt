@@ -11,28 +11,28 @@ use Rattle.words.specs.Table.{filled}
 -- The tables of the kinds from 1 on, each behind its semicolon: GGA, GLL, GSA, GSV, RMC, VTG, ZDA, PIRPR, PIRTR, PIRSR, PIRER, PIRPA, PIRTA, PIRSA, PIREA.
 abbrev pub tables : List ℕ
 tables =
-    ascii ";time of day:t UTC\nposition:p\nfix quality:Q\nsatellites used:n\nhorizontal dilution:k\naltitude above sea level:h metres\n"
-    ++ ascii "geoid height:h metres\nage of corrections:k seconds\nreference station:n\n"
-    ++ ascii ";position:p\ntime of day:t UTC\nstatus:S\nmode:M\n"
-    ++ ascii ";selection:A\nfix:F\nsatellite 1:n\nsatellite 2:n\nsatellite 3:n\nsatellite 4:n\nsatellite 5:n\nsatellite 6:n\n"
-    ++ ascii "satellite 7:n\nsatellite 8:n\nsatellite 9:n\nsatellite 10:n\nsatellite 11:n\nsatellite 12:n\n"
-    ++ ascii "position dilution:k\nhorizontal dilution:k\nvertical dilution:k\n"
-    ++ ascii ";lines:N\nthis line:N\nsatellites in view:N\nsatellites on this line:N\n"
-    ++ ascii ";time of day:t UTC\nstatus:S\nposition:p\nspeed:k knots\ntrue course:k degrees\ndate:d\nmagnetic variation:v\nmode:M\n"
-    ++ ascii ";true course:k degrees\nmagnetic course:k degrees\nspeed:k knots\nspeed:k kilometres per hour\nmode:M\n"
-    ++ ascii ";time of day:t UTC\ndate:d\nzone:z\n"
-    ++ ascii ";port:n\nrate:n bits per second\nprotocol:n\nmask:x\n"
-    ++ ascii ";datum:n\nzone:z\n"
-    ++ ascii ";GPS mask:g\nGLONASS mask:r\n"
+    ascii ";time of day: %t UTC\nposition: %p\nfix quality: %Q\nsatellites used: %n\nhorizontal dilution: %k\naltitude above sea level: %h metres\n"
+    ++ ascii "geoid height: %h metres\nage of corrections: %k seconds\nreference station: %n\n"
+    ++ ascii ";position: %p\ntime of day: %t UTC\nstatus: %S\nmode: %M\n"
+    ++ ascii ";selection: %A\nfix: %F\nsatellite 1: %n\nsatellite 2: %n\nsatellite 3: %n\nsatellite 4: %n\nsatellite 5: %n\nsatellite 6: %n\n"
+    ++ ascii "satellite 7: %n\nsatellite 8: %n\nsatellite 9: %n\nsatellite 10: %n\nsatellite 11: %n\nsatellite 12: %n\n"
+    ++ ascii "position dilution: %k\nhorizontal dilution: %k\nvertical dilution: %k\n"
+    ++ ascii ";lines: %N\nthis line: %N\nsatellites in view: %N\nsatellites on this line: %N\n"
+    ++ ascii ";time of day: %t UTC\nstatus: %S\nposition: %p\nspeed: %k knots\ntrue course: %k degrees\ndate: %d\nmagnetic variation: %v\nmode: %M\n"
+    ++ ascii ";true course: %k degrees\nmagnetic course: %k degrees\nspeed: %k knots\nspeed: %k kilometres per hour\nmode: %M\n"
+    ++ ascii ";time of day: %t UTC\ndate: %d\nzone: %z\n"
+    ++ ascii ";port: %n\nrate: %n bits per second\nprotocol: %n\nmask: %x\n"
+    ++ ascii ";datum: %n\nzone: %z\n"
+    ++ ascii ";GPS mask: %g\nGLONASS mask: %r\n"
     ++ ascii ";"
-    ++ ascii ";port:N\nrate:N bits per second\nprotocol:N\nmask:X\n"
-    ++ ascii ";datum:N\nzone:Z\n"
-    ++ ascii ";GPS mask:G\nGLONASS mask:R\n"
-    ++ ascii ";self-test code:N\n"
+    ++ ascii ";port: %N\nrate: %N bits per second\nprotocol: %N\nmask: %X\n"
+    ++ ascii ";datum: %N\nzone: %Z\n"
+    ++ ascii ";GPS mask: %G\nGLONASS mask: %R\n"
+    ++ ascii ";self-test code: %N\n"
 
 -- The table of a satellite of GSV, whose seven numbers stand behind one another, and the rows of so many satellites.
 abbrev pub entryTable : List ℕ
-entryTable = ascii "satellite:N\nelevation:n degrees\nazimuth:n degrees\nsignal:n dB\n"
+entryTable = ascii "satellite: %N\nelevation: %n degrees\nazimuth: %n degrees\nsignal: %n dB\n"
 
 unfoldable pub entriesText : ℕ → List ℕ → List ℕ
 entriesText zero ns = []
@@ -45,7 +45,7 @@ talkersOf kind = cond (ltb kind 8) 1 0
 -- The rows of a kind; of GSV also those of as many satellites as it says, and of no more than four. A kind that is none has no rows.
 unfoldable pub wordsText : ℕ → List ℕ → List ℕ
 wordsText kind ns =
-    filled 0 (nth kind tables) (drop (talkersOf kind) ns) ++ cond (eqb kind 4) (entriesText (min 4 (getD ns 4 0)) (drop 5 ns)) []
+    filled 0 (nth 59 kind tables) (drop (talkersOf kind) ns) ++ cond (eqb kind 4) (entriesText (min 4 (getD ns 4 0)) (drop 5 ns)) []
 
 -- What a sentence is, by its kind from 1 on.
 abbrev pub kinds : List ℕ

@@ -1,12 +1,12 @@
-// Texts in one text, with a semicolon behind each but the last.
+// Texts in one text, with a byte between each two that divides them.
 ghost use mathlib.Core.Path.{_≡_};
 ghost use Prim.Native.Nat.{_≤_};
 ghost use lib.ListN.{length, drop};
 ghost use Rattle.words.specs.Nth.{behind, nth};
 
-// The place behind semicolon `n` of `s`.
-fn start(s: &[u8], n: usize) -> usize
-    ensures { λ r. ⌜ (r ≤ length (now (s .entry))) × (drop r (now (s .entry)) ≡ behind n (now (s .entry))) ⌝ }
+// The place behind the byte `d` that is number `n` of its kind in `s`.
+fn start(s: &[u8], d: u8, n: usize) -> usize
+    ensures { λ r. ⌜ (r ≤ length (now (s .entry))) × (drop r (now (s .entry)) ≡ behind d n (now (s .entry))) ⌝ }
 {
     let mut k = n;
     let mut i: usize = 0;
@@ -14,7 +14,7 @@ fn start(s: &[u8], n: usize) -> usize
         if k == 0 {
             return i;
         }
-        if s[i] == b';' {
+        if s[i] == d {
             k -= 1;
         }
         i += 1;
@@ -23,11 +23,11 @@ fn start(s: &[u8], n: usize) -> usize
 }
 
 // Text `n` of `s`, counted from 0; nothing where there are not so many.
-pub(crate) fn nth_of<'a>(s: &'a [u8], n: usize) -> &'a [u8]
-    ensures { λ r. ⌜ now r ≡ nth n (now (s .entry)) ⌝ }
+pub(crate) fn nth_of<'a>(s: &'a [u8], d: u8, n: usize) -> &'a [u8]
+    ensures { λ r. ⌜ now r ≡ nth d n (now (s .entry)) ⌝ }
 {
-    let from = start(s, n);
+    let from = start(s, d, n);
     let rest = &s[from..];
-    let width = digits::find(rest, b';');
+    let width = digits::find(rest, d);
     &rest[..width]
 }

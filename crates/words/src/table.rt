@@ -3,8 +3,15 @@ ghost use mathlib.Core.Path.{_≡_};
 ghost use Prim.Native.Nat.{_≤_};
 ghost use lib.ListN.{length, drop};
 ghost use Rattle.put.specs.Wrote.{held, Puts};
-ghost use Rattle.words.specs.Table.{stepText, stepState, stepTaken, filled};
+ghost use Rattle.words.specs.Table.{isSilent, stepText, stepState, stepTaken, filled};
 use crate::form;
+
+// Whether a byte of a table that is no form puts nothing.
+fn is_silent(q: u8, b: u8) -> bool
+    ensures { λ r. ⌜ r ≡ isSilent q b ⌝ }
+{
+    (b == b'%') | ((q == 2) & (b != b'\n'))
+}
 
 // What a byte of a table puts.
 fn put_step(out: &mut [u8], at: usize, q: u8, b: u8, numbers: &[u32]) -> usize
@@ -13,11 +20,8 @@ fn put_step(out: &mut [u8], at: usize, q: u8, b: u8, numbers: &[u32]) -> usize
     if q == 1 {
         return form::put_value(out, at, b, numbers);
     }
-    if (q == 2) & (b != b'\n') {
+    if is_silent(q, b) {
         return at;
-    }
-    if b == b':' {
-        return put::put_bytes(out, at, b": ");
     }
     put::put(out, at, b)
 }
@@ -29,10 +33,10 @@ fn state(q: u8, b: u8, numbers: &[u32]) -> u8
     if q == 1 {
         return if form::is_sent(b, numbers) { 0 } else { 2 };
     }
-    if (q == 2) & (b != b'\n') {
-        return 2;
+    if b == b'%' {
+        return 1;
     }
-    if b == b':' { 1 } else { 0 }
+    if is_silent(q, b) { 2 } else { 0 }
 }
 
 // How many numbers it takes.

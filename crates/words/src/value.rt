@@ -1,15 +1,14 @@
 // The values of a record in words. A signed value comes as its 32 bits.
 ghost use mathlib.Core.Path.{_≡_};
-ghost use mathlib.Core.List.{[], _∷_, _++_};
-ghost use Prim.Native.Nat.{_/_, _%_};
-ghost use lib.IntN.{natAbs, pos};
-ghost use lib.Signed.{ltZ};
+ghost use mathlib.Core.List.{_∷_};
+ghost use lib.IntN.{natAbs};
 ghost use mir.Syntax.{w32};
 ghost use mir.Val.{toZ};
+ghost use Rattle.digits.specs.Decimal.{printFixed};
 ghost use Rattle.masks.specs.Masks.{printHex};
 ghost use Rattle.put.specs.Wrote.{held, Puts};
-ghost use Rattle.texts.specs.Texts.{sideText};
-ghost use Rattle.words.specs.Values.{counted, clockWords, dateWords, hoursWords, zoneWords, arcWords, angleWords, placeWords, heightWords, variationWords, numberMeant, letterMeant};
+ghost use Rattle.words.specs.Values.{either, isMinus, counted, clockWords, dateWords, hoursWords, zoneWords};
+ghost use Rattle.words.specs.Values.{angleWords, placeWords, heightWords, variationWords, byteOf, meantWords};
 
 // A signed value without its sign.
 fn size(n: u32) -> u32
@@ -20,32 +19,35 @@ fn size(n: u32) -> u32
 
 // Whether a signed value is less than zero.
 fn is_minus(n: u32) -> bool
-    ensures { λ r. ⌜ r ≡ ltZ (toZ w32 n) (pos 0) ⌝ }
+    ensures { λ r. ⌜ r ≡ isMinus (toZ w32 n) ⌝ }
 {
     slots::signed(n) < 0
 }
 
-// The first text, or the second where the value is less than zero.
-fn put_side(out: &mut [u8], at: usize, n: u32, plus: &[u8], minus: &[u8]) -> usize
-    ensures { λ r. ⌜ Puts (held at (now (out .entry))) (sideText (now (plus .entry)) (now (minus .entry)) (toZ w32 n)) (held r (now (out .exit))) ⌝ }
+// The one text or the other.
+fn pick<'a>(first: bool, s: &'a [u8], t: &'a [u8]) -> &'a [u8]
+    ensures { λ r. ⌜ now r ≡ either first (now (s .entry)) (now (t .entry)) ⌝ }
 {
-    if is_minus(n) {
-        return put::put_bytes(out, at, minus);
+    if first {
+        return s;
     }
-    put::put_bytes(out, at, plus)
+    t
 }
 
 // `1 hour`, `13 hours`
-fn put_counted(out: &mut [u8], at: usize, n: u32, word: &[u8]) -> usize
-    ensures { λ r. ⌜ Puts (held at (now (out .entry))) (counted n (now (word .entry))) (held r (now (out .exit))) ⌝ }
+fn put_counted<'a>(out: &mut [u8], at: usize, n: u32, one: &'a [u8], many: &'a [u8]) -> usize
+    ensures { λ r. ⌜ Puts (held at (now (out .entry))) (counted n (now (one .entry)) (now (many .entry))) (held r (now (out .exit))) ⌝ }
 {
-    let a0 = text::put_number(out, at, n as u64);
-    let a1 = put::put(out, a0, b' ');
-    let a2 = put::put_bytes(out, a1, word);
-    if n == 1 {
-        return a2;
-    }
-    put::put(out, a2, b's')
+    let a = text::put_number(out, at, n as u64);
+    put::put_bytes(out, a, pick(n == 1, one, many))
+}
+
+// `:51`: a byte and two digits.
+fn put_pair(out: &mut [u8], at: usize, b: u8, v: u32) -> usize
+    ensures { λ r. ⌜ Puts (held at (now (out .entry))) (b ∷ printFixed 2 v) (held r (now (out .exit))) ⌝ }
+{
+    let a = put::put(out, at, b);
+    put::put_two(out, a, v)
 }
 
 // `07:51:40.00`
@@ -53,12 +55,9 @@ pub(crate) fn put_clock(out: &mut [u8], at: usize, v: u32) -> usize
     ensures { λ r. ⌜ Puts (held at (now (out .entry))) (clockWords v) (held r (now (out .exit))) ⌝ }
 {
     let a0 = put::put_two(out, at, v / 360000);
-    let a1 = put::put(out, a0, b':');
-    let a2 = put::put_two(out, a1, v / 6000 % 60);
-    let a3 = put::put(out, a2, b':');
-    let a4 = put::put_two(out, a3, v / 100 % 60);
-    let a5 = put::put(out, a4, b'.');
-    put::put_two(out, a5, v % 100)
+    let a1 = put_pair(out, a0, b':', v / 6000 % 60);
+    let a2 = put_pair(out, a1, b':', v / 100 % 60);
+    put_pair(out, a2, b'.', v % 100)
 }
 
 // `2026-11-15`
@@ -66,10 +65,8 @@ pub(crate) fn put_date(out: &mut [u8], at: usize, day: u32, month: u32, year: u3
     ensures { λ r. ⌜ Puts (held at (now (out .entry))) (dateWords day month year) (held r (now (out .exit))) ⌝ }
 {
     let a0 = put::put_four(out, at, year);
-    let a1 = put::put(out, a0, b'-');
-    let a2 = put::put_two(out, a1, month);
-    let a3 = put::put(out, a2, b'-');
-    put::put_two(out, a3, day)
+    let a1 = put_pair(out, a0, b'-', month);
+    put_pair(out, a1, b'-', day)
 }
 
 // The hours of a zone, where there are any.
@@ -79,8 +76,7 @@ fn put_hours(out: &mut [u8], at: usize, n: u32) -> usize
     if n == 0 {
         return at;
     }
-    let a = put_counted(out, at, n, b"hour");
-    put::put(out, a, b' ')
+    put_counted(out, at, n, b" hour ", b" hours ")
 }
 
 // `minus 13 hours 59 minutes`
@@ -88,84 +84,77 @@ pub(crate) fn put_zone(out: &mut [u8], at: usize, n: u32) -> usize
     ensures { λ r. ⌜ Puts (held at (now (out .entry))) (zoneWords (toZ w32 n)) (held r (now (out .exit))) ⌝ }
 {
     let minutes = size(n);
-    let a0 = put_side(out, at, n, b"", b"minus ");
+    let a0 = put::put_bytes(out, at, pick(is_minus(n), b"minus ", b""));
     let a1 = put_hours(out, a0, minutes / 60);
-    put_counted(out, a1, minutes % 60, b"minute")
+    put_counted(out, a1, minutes % 60, b" minute", b" minutes")
 }
 
-// `50.6111`
-fn put_arc(out: &mut [u8], at: usize, v: u32) -> usize
-    ensures { λ r. ⌜ Puts (held at (now (out .entry))) (arcWords v) (held r (now (out .exit))) ⌝ }
+// `55 degrees 50.6111`
+fn put_angle(out: &mut [u8], at: usize, v: u32) -> usize
+    ensures { λ r. ⌜ Puts (held at (now (out .entry))) (angleWords v) (held r (now (out .exit))) ⌝ }
 {
-    let a0 = text::put_number(out, at, (v / 10000 % 60) as u64);
-    let a1 = put::put(out, a0, b'.');
-    put::put_four(out, a1, v % 10000)
+    let a0 = put_counted(out, at, v / 600000, b" degree ", b" degrees ");
+    let a1 = text::put_number(out, a0, (v / 10000 % 60) as u64);
+    let a2 = put::put(out, a1, b'.');
+    put::put_four(out, a2, v % 10000)
 }
 
-// `55 degrees 50.6111 minutes north`
-fn put_angle(out: &mut [u8], at: usize, n: u32, plus: &[u8], minus: &[u8]) -> usize
-    ensures { λ r. ⌜ Puts (held at (now (out .entry))) (angleWords (now (plus .entry)) (now (minus .entry)) (toZ w32 n)) (held r (now (out .exit))) ⌝ }
-{
-    let arc = size(n);
-    let a0 = put_counted(out, at, arc / 600000, b"degree");
-    let a1 = put::put(out, a0, b' ');
-    let a2 = put_arc(out, a1, arc);
-    let a3 = put::put_bytes(out, a2, b" minutes ");
-    put_side(out, a3, n, plus, minus)
-}
-
+// `55 degrees 50.6111 minutes north, 37 degrees 32.2534 minutes east`
 pub(crate) fn put_place(out: &mut [u8], at: usize, lat: u32, lon: u32) -> usize
     ensures { λ r. ⌜ Puts (held at (now (out .entry))) (placeWords (toZ w32 lat) (toZ w32 lon)) (held r (now (out .exit))) ⌝ }
 {
-    let a0 = put_angle(out, at, lat, b"north", b"south");
-    let a1 = put::put_bytes(out, a0, b", ");
-    put_angle(out, a1, lon, b"east", b"west")
+    let a0 = put_angle(out, at, size(lat));
+    let a1 = put::put_bytes(
+        out,
+        a0,
+        pick(is_minus(lat), b" minutes south, ", b" minutes north, "),
+    );
+    let a2 = put_angle(out, a1, size(lon));
+    put::put_bytes(
+        out,
+        a2,
+        pick(is_minus(lon), b" minutes west", b" minutes east"),
+    )
 }
 
 // `-12.5`
 pub(crate) fn put_height(out: &mut [u8], at: usize, n: u32) -> usize
     ensures { λ r. ⌜ Puts (held at (now (out .entry))) (heightWords (toZ w32 n)) (held r (now (out .exit))) ⌝ }
 {
-    let thousandths = size(n);
-    let a = put_side(out, at, n, b"", b"-");
-    put::put_number(out, a, thousandths)
+    let a = put::put_bytes(out, at, pick(is_minus(n), b"-", b""));
+    put::put_number(out, a, size(n))
 }
 
 // `5.2 degrees west`
 pub(crate) fn put_variation(out: &mut [u8], at: usize, n: u32) -> usize
     ensures { λ r. ⌜ Puts (held at (now (out .entry))) (variationWords (toZ w32 n)) (held r (now (out .exit))) ⌝ }
 {
-    let thousandths = size(n);
-    let a0 = put::put_number(out, at, thousandths);
-    let a1 = put::put_bytes(out, a0, b" degrees ");
-    put_side(out, a1, n, b"east", b"west")
-}
-
-// `1 fix`: a number and what it means.
-pub(crate) fn put_meant(out: &mut [u8], at: usize, n: u32, meanings: &[u8]) -> usize
-    ensures { λ r. ⌜ Puts (held at (now (out .entry))) (numberMeant (now (meanings .entry)) n) (held r (now (out .exit))) ⌝ }
-{
-    let a = text::put_number(out, at, n as u64);
-    put::put_bytes(out, a, crate::nth::nth_of(meanings, n as usize))
-}
-
-// `A autonomous`: a letter and what it means.
-pub(crate) fn put_letter(
-    out: &mut [u8],
-    at: usize,
-    v: u32,
-    letters: &[u8],
-    meanings: &[u8],
-) -> usize
-    ensures { λ r. ⌜ Puts (held at (now (out .entry))) (letterMeant (now (letters .entry)) (now (meanings .entry)) v) (held r (now (out .exit))) ⌝ }
-{
-    let b = (v % 256) as u8;
-    let a = put::put(out, at, b);
+    let a = put::put_number(out, at, size(n));
     put::put_bytes(
         out,
         a,
-        crate::nth::nth_of(meanings, digits::find(letters, b)),
+        pick(is_minus(n), b" degrees west", b" degrees east"),
     )
+}
+
+// A digit or a letter of a record as it stands in a line.
+fn byte_of(v: u32) -> u8
+    ensures { λ r. ⌜ r ≡ byteOf v ⌝ }
+{
+    if v < 10 {
+        return v as u8 + 48;
+    }
+    (v % 256) as u8
+}
+
+// `A autonomous`: a digit or a letter and what it means.
+pub(crate) fn put_meant(out: &mut [u8], at: usize, v: u32, letters: &[u8], meanings: &[u8]) -> usize
+    ensures { λ r. ⌜ Puts (held at (now (out .entry))) (meantWords (now (letters .entry)) (now (meanings .entry)) v) (held r (now (out .exit))) ⌝ }
+{
+    let b = byte_of(v);
+    let meaning = crate::nth::nth_of(meanings, b',', digits::find(letters, b));
+    let a = put::put(out, at, b);
+    put::put_bytes(out, a, meaning)
 }
 
 // The last `width` hex digits of a mask, as capitals.

@@ -12,15 +12,11 @@ returns c = rw (eq-eqb _ _ (c .before .before .before .before .if1 .taken)) (c .
 
 returns-2 : tie.Need-returns-2
 unfolding stepText
-returns-2 c = rw (ne-eqb _ _ (c .before .if1 .left), c .if2 .taken) (nothing-put _)
+returns-2 c = rw (ne-eqb _ _ (c .before .before .if1 .left), ← c .before .is-silent .ensures, c .if2 .taken) (nothing-put _)
 
 returns-3 : tie.Need-returns-3
 unfolding stepText
-returns-3 c = rw (ne-eqb _ _ (c .before .before .before .before .before .before .before .if1 .left), c .before .before .before .before .before .before .if2 .left, eq-eqb _ _ (c .before .before .before .before .before .if3 .taken)) (c .before .before .put-bytes .ensures)
-
-returns-4 : tie.Need-returns-4
-unfolding stepText
-returns-4 c = rw (ne-eqb _ _ (c .before .before .before .before .before .before .if1 .left), c .before .before .before .before .before .if2 .left, ne-eqb _ _ (c .before .before .before .before .if3 .left)) (c .before .before .put .ensures)
+returns-3 c = rw (ne-eqb _ _ (c .before .before .before .before .before .before .if1 .left), ← c .before .before .before .before .before .is-silent .ensures, c .before .before .before .before .if2 .left) (c .before .before .put .ensures)
 
 pub put-step-spec : {M : Type 1} → statement M
 put-step-spec =
@@ -29,11 +25,8 @@ put-step-spec =
     (λ c κs. search needs)
     (λ c. search needs)
     returns
+    (λ c κs. search needs)
     returns-2
-    (λ c. search needs)
     (λ c κs. search needs)
     (λ c. search needs)
-    returns-3
-    (λ c κs. search needs)
-    (λ c. search needs)
-    returns-4)
+    returns-3)

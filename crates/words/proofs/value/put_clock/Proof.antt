@@ -7,15 +7,12 @@ use Rattle.words.proofs.value.put_clock.Tie as tie
 
 returns : tie.Need-returns
 unfolding clockWords
-returns c = c .before .before .before .before .before .before .before .before .before .before .before .before .before .before .before .before .before .before .before .before .before .before .before .before .before .before .put-two .ensures ⨾ (c .before .before .before .before .before .before .before .before .before .before .before .before .before .before .before .before .before .before .before .before .before .before .put .ensures ⨾ c .before .before .before .before .before .before .before .before .before .before .before .before .before .before .before .before .before .before .put-two2 .ensures) ⨾ (c .before .before .before .before .before .before .before .before .before .before .before .before .before .before .put2 .ensures ⨾ c .before .before .before .before .before .before .before .before .before .before .put-two3 .ensures) ⨾ (c .before .before .before .before .before .before .put3 .ensures ⨾ c .before .before .put-two4 .ensures)
+returns c = c .before .before .before .before .before .before .before .before .before .before .before .before .before .before .put-two .ensures ⨾ c .before .before .before .before .before .before .before .before .before .before .put-pair .ensures ⨾ c .before .before .before .before .before .before .put-pair2 .ensures ⨾ c .before .before .put-pair3 .ensures
 
 pub put-clock-spec : {M : Type 1} → statement M
 put-clock-spec =
     tie.close
     (tie.spec
-    (λ c κs. search needs)
-    (λ c κs. search needs)
-    (λ c κs. search needs)
     (λ c κs. search needs)
     (λ c κs. search needs)
     (λ c κs. search needs)

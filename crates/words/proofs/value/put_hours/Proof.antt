@@ -1,5 +1,5 @@
 -- By whether there are any.
-use Rattle.put.proofs.Chain.{_⨾_, nothing-put}
+use Rattle.put.proofs.Chain.{nothing-put}
 use borrow.Author.Tests.{eq-eqb, ne-eqb}
 use Rattle.words.specs.Values.{hoursWords}
 use borrow.Author.Needs.{needs}
@@ -12,15 +12,7 @@ returns c = rw (eq-eqb _ _ (c .if1 .taken)) (nothing-put _)
 
 returns-2 : tie.Need-returns-2
 unfolding hoursWords
-returns-2 c = rw (ne-eqb _ _ (c .before .before .before .before .before .before .before .before .before .if1 .left)) (c .before .before .before .before .before .before .put-counted .ensures ⨾ c .before .before .put .ensures)
+returns-2 c = rw (ne-eqb _ _ (c .before .before .before .before .before .before .if1 .left)) (c .before .before .put-counted .ensures)
 
 pub put-hours-spec : {M : Type 1} → statement M
-put-hours-spec =
-    tie.close
-    (tie.spec
-    returns
-    (λ c. search needs)
-    (λ c κs. search needs)
-    (λ c κs. search needs)
-    (λ c. search needs)
-    returns-2)
+put-hours-spec = tie.close (tie.spec returns (λ c. search needs) (λ c. search needs) (λ c κs. search needs) (λ c. search needs) returns-2)

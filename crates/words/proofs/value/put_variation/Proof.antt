@@ -7,7 +7,7 @@ use Rattle.words.proofs.value.put_variation.Tie as tie
 
 returns : tie.Need-returns
 unfolding variationWords
-returns c = (rw (c .before .before .before .before .before .before .before .before .before .before .before .before .before .before .before .size .ensures) at (c .before .before .before .before .before .before .before .before .before .before .before .before .before .put-number .ensures)) ⨾ c .before .before .before .before .before .before .before .before .put-bytes .ensures ⨾ c .before .before .put-side .ensures
+returns c = (rw (c .before .before .before .before .before .before .before .before .before .before .before .size .ensures) at (c .before .before .before .before .before .before .before .before .before .before .put-number .ensures)) ⨾ (rw (c .before .before .before .pick .ensures, c .before .before .before .before .before .before .is-minus .ensures) at (c .before .before .put-bytes .ensures))
 
 pub put-variation-spec : {M : Type 1} → statement M
 put-variation-spec =
@@ -15,10 +15,10 @@ put-variation-spec =
     (tie.spec
     (λ c κs. search needs)
     (λ c κs. search needs)
-    (λ c. search needs)
     (λ c κs. search needs)
     (λ c. search needs)
     (λ c. search needs)
+    (λ c κs. search needs)
     (λ c κs. search needs)
     (λ c. search needs)
     returns)
