@@ -1,5 +1,5 @@
 pub mod Nth
-pub mod Values
+pub mod Codes
 pub mod Forms
 pub mod Table
 pub mod Words

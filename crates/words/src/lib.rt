@@ -1,9 +1,9 @@
 // The fields of a sentence in words, for one who reads an exhibit. Each function writes into a lent buffer from
 // the place `at` on, as far as there is room, leaves all other bytes, and answers the next place.
+mod code;
 mod form;
 mod nth;
 mod table;
-mod value;
 
 ghost use mathlib.Core.Path.{_≡_};
 ghost use Prim.Native.Nat.{min};
