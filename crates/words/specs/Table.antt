@@ -1,5 +1,5 @@
--- A table says the rows of a kind: each is a name with its colon, `%` and the letter of a form in the place of the value, the unit, and LF.
--- The rows are put for numbers in the same order; the unit of a value that was not sent is passed over.
+-- A table says the rows of a kind: each is a name, `%` and the letter of a form in the place of the value, the unit, and LF. The rows are
+-- put for numbers in the same order; the unit of a value that was not sent is passed over.
 use Prim.Native.Nat.{ℕ}
 use mathlib.Core.List.{List, [], _∷_, _++_}
 use mathlib.Core.Bool.{Bool, cond, _&&_, _||_, not}

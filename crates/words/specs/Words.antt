@@ -8,17 +8,19 @@ use Rattle.digits.specs.Ascii.{ascii}
 use Rattle.words.specs.Nth.{nth}
 use Rattle.words.specs.Table.{filled}
 
--- The tables of the kinds from 1 on, each behind its semicolon: GGA, GLL, GSA, GSV, RMC, VTG, ZDA, PIRPR, PIRTR, PIRSR, PIRER, PIRPA, PIRTA, PIRSA, PIREA.
+-- The tables of the kinds from 1 on, each behind its semicolon: GGA, GLL, GSA, GSV, RMC, VTG, ZDA, PIRPR,
+-- PIRTR, PIRSR, PIRER, PIRPA, PIRTA, PIRSA, PIREA.
 abbrev pub tables : List ℕ
 tables =
-    ascii ";time of day: %t UTC\nposition: %p\nfix quality: %Q\nsatellites used: %n\nhorizontal dilution: %k\naltitude above sea level: %h metres\n"
-    ++ ascii "geoid height: %h metres\nage of corrections: %k seconds\nreference station: %n\n"
+    ascii ";time of day: %t UTC\nposition: %p\nfix quality: %Q\nsatellites used: %n\nhorizontal dilution: %k\n"
+    ++ ascii "altitude above sea level: %h metres\ngeoid height: %h metres\nage of corrections: %k seconds\nreference station: %n\n"
     ++ ascii ";position: %p\ntime of day: %t UTC\nstatus: %S\nmode: %M\n"
-    ++ ascii ";selection: %A\nfix: %F\nsatellite 1: %n\nsatellite 2: %n\nsatellite 3: %n\nsatellite 4: %n\nsatellite 5: %n\nsatellite 6: %n\n"
-    ++ ascii "satellite 7: %n\nsatellite 8: %n\nsatellite 9: %n\nsatellite 10: %n\nsatellite 11: %n\nsatellite 12: %n\n"
-    ++ ascii "position dilution: %k\nhorizontal dilution: %k\nvertical dilution: %k\n"
+    ++ ascii ";selection: %A\nfix: %F\nsatellite 1: %n\nsatellite 2: %n\nsatellite 3: %n\nsatellite 4: %n\n"
+    ++ ascii "satellite 5: %n\nsatellite 6: %n\nsatellite 7: %n\nsatellite 8: %n\n"
+    ++ ascii "satellite 9: %n\nsatellite 10: %n\nsatellite 11: %n\nsatellite 12: %n\nposition dilution: %k\nhorizontal dilution: %k\nvertical dilution: %k\n"
     ++ ascii ";lines: %N\nthis line: %N\nsatellites in view: %N\nsatellites on this line: %N\n"
-    ++ ascii ";time of day: %t UTC\nstatus: %S\nposition: %p\nspeed: %k knots\ntrue course: %k degrees\ndate: %d\nmagnetic variation: %v\nmode: %M\n"
+    ++ ascii ";time of day: %t UTC\nstatus: %S\nposition: %p\nspeed: %k knots\ntrue course: %k degrees\n"
+    ++ ascii "date: %d\nmagnetic variation: %v\nmode: %M\n"
     ++ ascii ";true course: %k degrees\nmagnetic course: %k degrees\nspeed: %k knots\nspeed: %k kilometres per hour\nmode: %M\n"
     ++ ascii ";time of day: %t UTC\ndate: %d\nzone: %z\n"
     ++ ascii ";port: %n\nrate: %n bits per second\nprotocol: %n\nmask: %x\n"
@@ -59,6 +61,7 @@ kinds =
 abbrev pub refusals : List ℕ
 refusals =
     ascii ";the line rule fails, or a written line would pass 82 bytes;the two digits differ from the XOR of the body"
-    ++ ascii ";the address is unknown;the kind does not have so many fields;a field is not of its form or range, or a value of a record is outside its range"
+    ++ ascii ";the address is unknown;the kind does not have so many fields"
+    ++ ascii ";a field is not of its form or range, or a value of a record is outside its range"
     ++ ascii ";a line does not go with its group;a satellite is repeated in its group;the output is shorter than what would be written"
     ++ ascii ";the sentence is not a command;the protocol of the port is not 4;the bytes are no index;no exhibit has that number"

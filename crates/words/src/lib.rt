@@ -48,14 +48,15 @@ pub fn put_words(out: &mut [u8], at: usize, kind: u32, numbers: &[u32]) -> usize
     ensures { λ r. ⌜ Puts (held at (now (out .entry))) (wordsText kind (now (numbers .entry))) (held r (now (out .exit))) ⌝ }
 {
     let tables = b"\
-        ;time of day: %t UTC\nposition: %p\nfix quality: %Q\nsatellites used: %n\nhorizontal dilution: %k\naltitude above sea level: %h metres\n\
-        geoid height: %h metres\nage of corrections: %k seconds\nreference station: %n\n\
+        ;time of day: %t UTC\nposition: %p\nfix quality: %Q\nsatellites used: %n\nhorizontal dilution: %k\n\
+        altitude above sea level: %h metres\ngeoid height: %h metres\nage of corrections: %k seconds\nreference station: %n\n\
         ;position: %p\ntime of day: %t UTC\nstatus: %S\nmode: %M\n\
-        ;selection: %A\nfix: %F\nsatellite 1: %n\nsatellite 2: %n\nsatellite 3: %n\nsatellite 4: %n\nsatellite 5: %n\nsatellite 6: %n\n\
-        satellite 7: %n\nsatellite 8: %n\nsatellite 9: %n\nsatellite 10: %n\nsatellite 11: %n\nsatellite 12: %n\n\
-        position dilution: %k\nhorizontal dilution: %k\nvertical dilution: %k\n\
+        ;selection: %A\nfix: %F\nsatellite 1: %n\nsatellite 2: %n\nsatellite 3: %n\nsatellite 4: %n\n\
+        satellite 5: %n\nsatellite 6: %n\nsatellite 7: %n\nsatellite 8: %n\n\
+        satellite 9: %n\nsatellite 10: %n\nsatellite 11: %n\nsatellite 12: %n\nposition dilution: %k\nhorizontal dilution: %k\nvertical dilution: %k\n\
         ;lines: %N\nthis line: %N\nsatellites in view: %N\nsatellites on this line: %N\n\
-        ;time of day: %t UTC\nstatus: %S\nposition: %p\nspeed: %k knots\ntrue course: %k degrees\ndate: %d\nmagnetic variation: %v\nmode: %M\n\
+        ;time of day: %t UTC\nstatus: %S\nposition: %p\nspeed: %k knots\ntrue course: %k degrees\n\
+        date: %d\nmagnetic variation: %v\nmode: %M\n\
         ;true course: %k degrees\nmagnetic course: %k degrees\nspeed: %k knots\nspeed: %k kilometres per hour\nmode: %M\n\
         ;time of day: %t UTC\ndate: %d\nzone: %z\n\
         ;port: %n\nrate: %n bits per second\nprotocol: %n\nmask: %x\n\
@@ -92,7 +93,8 @@ pub fn put_refusal(out: &mut [u8], at: usize, no: u8) -> usize
 {
     let refusals = b"\
         ;the line rule fails, or a written line would pass 82 bytes;the two digits differ from the XOR of the body\
-        ;the address is unknown;the kind does not have so many fields;a field is not of its form or range, or a value of a record is outside its range\
+        ;the address is unknown;the kind does not have so many fields\
+        ;a field is not of its form or range, or a value of a record is outside its range\
         ;a line does not go with its group;a satellite is repeated in its group;the output is shorter than what would be written\
         ;the sentence is not a command;the protocol of the port is not 4;the bytes are no index;no exhibit has that number";
     put::put_bytes(out, at, nth::nth_of(refusals, b';', no as usize))
