@@ -57,6 +57,9 @@ kinds =
     ++ ascii ";command: satellites allowed;command: self-test;reply: settings of a port;reply: datum and zone"
     ++ ascii ";reply: satellites allowed;reply: self-test"
 
+abbrev pub kindText : ℕ → List ℕ
+kindText kind = nth 59 kind kinds
+
 -- What a refusal says, by its number from 1 on.
 abbrev pub refusals : List ℕ
 refusals =
@@ -65,3 +68,6 @@ refusals =
     ++ ascii ";a field is not of its form or range, or a value of a record is outside its range"
     ++ ascii ";a line does not go with its group;a satellite is repeated in its group;the output is shorter than what would be written"
     ++ ascii ";the sentence is not a command;the protocol of the port is not 4;the bytes are no index;no exhibit has that number"
+
+abbrev pub refusalText : ℕ → List ℕ
+refusalText n = nth 59 n refusals

@@ -9,8 +9,7 @@ ghost use mathlib.Core.Path.{_≡_};
 ghost use Prim.Native.Nat.{min};
 ghost use lib.ListN.{drop};
 ghost use Rattle.put.specs.Wrote.{held, Puts};
-ghost use Rattle.words.specs.Nth.{nth};
-ghost use Rattle.words.specs.Words.{entriesText, talkersOf, wordsText, kinds, refusals};
+ghost use Rattle.words.specs.Words.{entriesText, talkersOf, wordsText, kindText, refusalText};
 
 // How many satellites a GSV with this count has; no more than four.
 fn few(count: u32) -> usize
@@ -77,7 +76,7 @@ pub fn put_words(out: &mut [u8], at: usize, kind: u32, numbers: &[u32]) -> usize
 
 // What a sentence is, by its kind; nothing for a kind that is none.
 pub fn put_kind(out: &mut [u8], at: usize, kind: u32) -> usize
-    ensures { λ r. ⌜ Puts (held at (now (out .entry))) (nth 59 kind kinds) (held r (now (out .exit))) ⌝ }
+    ensures { λ r. ⌜ Puts (held at (now (out .entry))) (kindText kind) (held r (now (out .exit))) ⌝ }
 {
     let kinds = b"\
         ;position fix;geographic position;satellites used and dilution;satellites in view;position, speed, course and date\
@@ -89,7 +88,7 @@ pub fn put_kind(out: &mut [u8], at: usize, kind: u32) -> usize
 
 // What a refusal says, by its number; nothing for a number that is none.
 pub fn put_refusal(out: &mut [u8], at: usize, no: u8) -> usize
-    ensures { λ r. ⌜ Puts (held at (now (out .entry))) (nth 59 no refusals) (held r (now (out .exit))) ⌝ }
+    ensures { λ r. ⌜ Puts (held at (now (out .entry))) (refusalText no) (held r (now (out .exit))) ⌝ }
 {
     let refusals = b"\
         ;the line rule fails, or a written line would pass 82 bytes;the two digits differ from the XOR of the body\
