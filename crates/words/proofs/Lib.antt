@@ -1,0 +1,3 @@
+pub mod NthLaws
+pub mod FormLaws
+pub mod TableLaws

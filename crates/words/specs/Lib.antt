@@ -1,0 +1,5 @@
+pub mod Nth
+pub mod Codes
+pub mod Forms
+pub mod Table
+pub mod Words
