@@ -1,5 +1,6 @@
 // What the programs that read in turns share: writing a part of a buffer, and keeping a part for the next turn.
-ghost use Rattle.turns.specs.Turns.{Keeps, Flushes};
+ghost use lib.ListN.{length};
+ghost use Rattle.turns.specs.Turns.{Keeps, Flushes, Comes};
 
 // Writes what `out` holds up to `place`, and answers whether all of it could be written; false where `place`
 // lies beyond `out`.
@@ -27,4 +28,31 @@ pub fn keep(buf: &mut [u8], a: usize, e: usize) -> usize
         from += 1;
     }
     i
+}
+
+// What a read came to: how many bytes the buffer holds now; the end of the input; a buffer that was full; or a failure,
+// of which errno tells.
+pub enum Came {
+    Bytes(usize),
+    End,
+    Full,
+    Failed,
+}
+
+// Reads once, behind the bytes of `buf` that were kept.
+pub fn read_more(fd: i32, buf: &mut [u8], kept: usize) -> Came
+    ensures { λ r. ⌜ Comes kept (length (now (buf .entry))) r ⌝ }
+{
+    if buf.len() <= kept {
+        return Came::Full;
+    }
+    let got = libc::read(fd, &mut buf[kept..]);
+    if got < 0 {
+        return Came::Failed;
+    }
+    let n = io::count(got, &buf[kept..]);
+    if n == 0 {
+        return Came::End;
+    }
+    Came::Bytes(kept + n)
 }
