@@ -1,5 +1,7 @@
 """The listing program, run as a person would: on the sample log, on nothing, on long and slow input, and used wrongly."""
+import pathlib
 import subprocess
+import tempfile
 
 from programs import ROOT, command, run
 
@@ -78,6 +80,28 @@ def as_answer(row, number):
 
 def test_a_wrong_argument_is_refused_in_words():
     for words in (("log",), ("record",), ("records2",), ("records", "records"), ("",), ("r" * 300,)):
-        out, said = run("listing", SOUND, *words)
+        out, said = run("listing", SOUND, *words, status=1)
         assert out == b"", words
         assert said.startswith(b"listing: it reads a log from standard input and takes no argument but 'records',"), said
+
+
+def test_from_another_folder():
+    log = (ROOT / "samples" / "day.log").read_bytes()
+    with tempfile.TemporaryDirectory() as folder:
+        assert run("listing", log, cwd=folder) == run("listing", log)
+        assert run("listing", SOUND, "log", cwd=folder, status=1)[0] == b""
+        assert not any(pathlib.Path(folder).iterdir())
+    shown = subprocess.run(["tools/program", "listing"], input=log, capture_output=True, cwd=ROOT, timeout=300)
+    assert (shown.returncode, shown.stdout, shown.stderr) == (0, run("listing", log)[0], b"")
+
+
+def test_output_that_cannot_be_written():
+    with open("/dev/full", "wb") as full:
+        done = subprocess.run(command("listing"), input=SOUND, stdout=full, stderr=subprocess.PIPE, cwd=ROOT, timeout=300)
+    assert done.returncode == 1
+    assert done.stderr.startswith(b"listing: standard output cannot be written: "), done.stderr
+
+
+def test_both_streams_in_one():
+    done = subprocess.run(command("listing", "log"), input=SOUND, stdout=subprocess.PIPE, stderr=subprocess.STDOUT, cwd=ROOT, timeout=300)
+    assert done.returncode == 1 and done.stdout.startswith(b"listing: it reads a log"), done

@@ -131,4 +131,4 @@ def test_more_input_than_its_buffer():
 
 def test_wrong_arguments():
     for words in (("2",), ("",), ("01",), ("-1",), ("0 ",), ("port",), ("0", "1"), ("0", "0"), ("00000000",)):
-        assert run("standin", EXCHANGE[0], *words) == (b"", b"standin: the port is 0 or 1\n"), words
+        assert run("standin", EXCHANGE[0], *words, status=1) == (b"", b"standin: the port is 0 or 1\n"), words
