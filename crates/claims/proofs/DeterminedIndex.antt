@@ -53,7 +53,7 @@ index-find s number = one
 -- host: each hands on the answer of one definition, its struct taken apart into lent numbers.
 pub host-index-write : (numbers out : List ℕ) (stood : ℕ)
     → One (writtenIndex numbers (length out) .no) × One
-        (setAt (writtenIndex numbers (length out) .no) (writtenIndex numbers (length out) .length) stood)
+    (setAt (writtenIndex numbers (length out) .no) (writtenIndex numbers (length out) .length) stood)
     × One (writtenIndex numbers (length out) .line) × One (writtenIndex numbers (length out) .field) × One (leftIndex numbers out)
 host-index-write numbers out stood = (one, one, one, one, one)
 
@@ -66,7 +66,7 @@ host-index-read s out stood = (one, one, one, one, one)
 pub host-index-add : (buffer : List ℕ) (used number offset size stood : ℕ)
     → One (addedIndex buffer used (entryWith number offset size) .no)
     × One (setAt (addedIndex buffer used (entryWith number offset size) .no)
-        (addedIndex buffer used (entryWith number offset size) .length) stood)
+    (addedIndex buffer used (entryWith number offset size) .length) stood)
     × One (addedIndex buffer used (entryWith number offset size) .line) × One (addedIndex buffer used (entryWith number offset size) .field)
     × One (leftAdded buffer used (entryWith number offset size))
 host-index-add buffer used number offset size stood = (one, one, one, one, one)

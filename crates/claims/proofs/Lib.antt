@@ -17,3 +17,4 @@ pub mod Faultless
 pub mod DeterminedReceiver
 pub mod DeterminedHost
 pub mod DeterminedIndex
+pub mod DeterminedWords

@@ -104,6 +104,7 @@ pub fn wide_number(word: &[u8]) -> Option<u64> {
 pub fn bytes_or_none(word: &[u8], most: usize) -> Option<Vec<u8>> {
     match word {
         b"-" => Some(Vec::new()),
+        b"" => None,
         digits => bytes(digits, most),
     }
 }

@@ -1,0 +1,46 @@
+-- Values and fields in words, and lists of exhibits: any two results that a contract permits are equal.
+use Prim.Native.Nat.{ℕ}
+use mathlib.Core.Path.{_≡_, refl, sym, ap, _∙_}
+use mathlib.Core.Option.{Option, none, some}
+use mathlib.Core.List.{List}
+use Rattle.put.specs.Wrote.{Held, wrote}
+use Rattle.phrases.specs.Phrases.{measureText}
+use Rattle.words.specs.Words.{wordsText, kindText, refusalText}
+use Rattle.lists.specs.declared.Parsed.{Parsed}
+use Rattle.lists.specs.declared.Parsed.the-variants.{Is, Bad}
+use Rattle.lists.specs.declared.Row.{Row}
+use Rattle.lists.specs.Lists.{number, numberOf, rowOf, bodyOf, askedOf}
+use Rattle.claims.proofs.Determined.{One, one}
+
+-- phrases, words
+pub put-measure : (h : Held) (f u v w : ℕ) → One (wrote h (measureText f u v w))
+put-measure h f u v w = one
+
+pub put-words : (h : Held) (kind : ℕ) (numbers : List ℕ) → One (wrote h (wordsText kind numbers))
+put-words h kind numbers = one
+
+pub put-kind : (h : Held) (kind : ℕ) → One (wrote h (kindText kind))
+put-kind h kind = one
+
+pub put-refusal : (h : Held) (n : ℕ) → One (wrote h (refusalText n))
+put-refusal h n = one
+
+-- lists
+abbrev parsed-of : Option ℕ → Parsed
+parsed-of (some v) = Is v
+parsed-of none = Bad
+
+parsed-one : (r s : Parsed) → number r ≡ number s → r ≡ s
+parsed-one (Is m) (Is n) e = ap parsed-of e
+parsed-one (Is m) Bad e = ap parsed-of e
+parsed-one Bad (Is n) e = ap parsed-of e
+parsed-one Bad Bad e = refl
+
+pub parse : (s : List ℕ) (r q : Parsed) → number r ≡ numberOf s → number q ≡ numberOf s → r ≡ q
+parse s r q e f = parsed-one r q (e ∙ sym f)
+
+pub read-row : (s : List ℕ) → One (rowOf (bodyOf s))
+read-row s = one
+
+pub asks : (last above : ℕ) (row : Row) → One (askedOf last above row)
+asks last above row = one
