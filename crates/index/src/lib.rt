@@ -73,7 +73,16 @@ fn put_three(out: &mut [u8], at: usize, gap: u64, skip: u64, length: u64) -> usi
     put::put(out, a1, length as u8)
 }
 
-// Puts the bytes of `e` behind the entry `last`, as each put does.
+// Puts the bytes of `e` behind the entry `last`, as each put does, number by number.
+pub fn put_longer(out: &mut [u8], at: usize, last: Entry, e: Entry) -> usize
+    ensures { λ r. ⌜ Puts (held at (now (out .entry))) (entryBytes last e) (held r (now (out .exit))) ⌝ }
+{
+    let a0 = sevens::put(out, at, less(e.number, last.number));
+    let a1 = sevens::put(out, a0, less(less(e.offset, last.offset), last.length));
+    sevens::put(out, a1, e.length)
+}
+
+// The same; three numbers of a byte each are put at once.
 pub fn put_entry(out: &mut [u8], at: usize, last: Entry, e: Entry) -> usize
     ensures { λ r. ⌜ Puts (held at (now (out .entry))) (entryBytes last e) (held r (now (out .exit))) ⌝ }
 {
@@ -82,12 +91,19 @@ pub fn put_entry(out: &mut [u8], at: usize, last: Entry, e: Entry) -> usize
     if (gap < 128) & ((skip < 128) & (e.length < 128)) {
         return put_three(out, at, gap, skip, e.length);
     }
-    let a0 = sevens::put(out, at, gap);
-    let a1 = sevens::put(out, a0, skip);
-    sevens::put(out, a1, e.length)
+    put_longer(out, at, last, e)
 }
 
-// How many bytes `e` takes behind the entry `last`.
+// How many bytes `e` takes behind the entry `last`, number by number.
+fn longer_size(last: Entry, e: Entry) -> usize
+    ensures { λ r. ⌜ r ≡ length (entryBytes last e) ⌝ }
+{
+    let gap = sevens::size(less(e.number, last.number));
+    let skip = sevens::size(less(less(e.offset, last.offset), last.length));
+    gap + (skip + sevens::size(e.length))
+}
+
+// The same; three numbers of a byte each are seen at once.
 fn size(last: Entry, e: Entry) -> usize
     ensures { λ r. ⌜ r ≡ length (entryBytes last e) ⌝ }
 {
@@ -96,7 +112,7 @@ fn size(last: Entry, e: Entry) -> usize
     if (gap < 128) & ((skip < 128) & (e.length < 128)) {
         return 3;
     }
-    sevens::size(gap) + (sevens::size(skip) + sevens::size(e.length))
+    longer_size(last, e)
 }
 
 // What stands at a place behind an entry: the next entry, and the place behind it; an entry whose bytes end too soon,

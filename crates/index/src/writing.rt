@@ -27,11 +27,11 @@ pub fn add(index: &mut [u8], used: usize, e: Entry) -> Written
     if !crate::fits(last, e) {
         return sealing::refuse(5, 0, 0);
     }
-    let n = crate::size(last, e);
+    let n = crate::longer_size(last, e);
     if index.len() - used < n {
         return sealing::refuse(8, 0, 0);
     }
-    crate::put_entry(index, used, last, e);
+    crate::put_longer(index, used, last, e);
     wrote(used + n)
 }
 
