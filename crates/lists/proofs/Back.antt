@@ -11,7 +11,8 @@ use lib.ListN.{length, getD, List·getD-append}
 use borrow.Author.Tests.{le-leb, ne-eqb, leb-true, leb-false}
 use Rattle.digits.specs.Decimal.{digitsFrom, printFixed}
 use Rattle.digits.proofs.DecimalLaws.{length-fixed, digits-rt}
-use Rattle.lists.specs.Lists.{most, isPadded, upTo, numberOf}
+use Rattle.sevens.specs.Sevens.{most}
+use Rattle.lists.specs.Lists.{isPadded, upTo, numberOf}
 
 -- The first digit of a number that needs all its places is not 0.
 first-digit : (m n : ℕ) → 10 ^ m ≤ n → n < 10 ^ suc m → 49 ≤ getD (printFixed (suc m) n) 0 0

@@ -6,6 +6,7 @@ use mathlib.Core.Option.{Option, none, some}
 use lib.Dec.{leb, ltb, eqb}
 use lib.ListN.{length, getD, take, drop}
 use Rattle.digits.specs.Decimal.{digitsFrom}
+use Rattle.sevens.specs.Sevens.{most}
 use Rattle.lists.specs.declared.Parsed.{Parsed}
 use Rattle.lists.specs.declared.Parsed.the-variants as P
 use Rattle.lists.specs.declared.Row.{Row}
@@ -16,10 +17,6 @@ use Rattle.lists.specs.declared.Asked.the-variants as A
 abbrev pub number : Parsed → Option ℕ
 number (P.Is v) = some v
 number P.Bad = none
-
--- The largest number that an index can say.
-abbrev pub most : ℕ
-most = 4294967295
 
 -- A zero before other digits.
 unfoldable pub isPadded : List ℕ → Bool
