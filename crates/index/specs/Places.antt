@@ -25,6 +25,10 @@ pub record Near (s : List ℕ) (at : ℕ) : Type 0 where
   pub second : getD s (at + 1) 0 < 128
   pub third : getD s (at + 2) 0 < 128
 
+abbrev pub wholeWith : ℕ → ℕ → ℕ → ℕ → Scanned
+wholeWith count number offset size = record
+    { whole = true; count = count; last = record { number = number; offset = offset; length = size } }
+
 abbrev pub scanOf : Listing → Scanned
 scanOf (listed es) = record { whole = true; count = length es; last = lastOf origin es }
 scanOf noIndex = record { whole = false; count = 0; last = origin }

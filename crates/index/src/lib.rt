@@ -74,7 +74,7 @@ fn put_three(out: &mut [u8], at: usize, gap: u64, skip: u64, length: u64) -> usi
 }
 
 // Puts the bytes of `e` behind the entry `last`, as each put does, number by number.
-pub fn put_longer(out: &mut [u8], at: usize, last: Entry, e: Entry) -> usize
+fn put_longer(out: &mut [u8], at: usize, last: Entry, e: Entry) -> usize
     ensures { λ r. ⌜ Puts (held at (now (out .entry))) (entryBytes last e) (held r (now (out .exit))) ⌝ }
 {
     let a0 = sevens::put(out, at, less(e.number, last.number));

@@ -7,7 +7,7 @@ ghost use lib.ListN.{length};
 ghost use Rattle.put.specs.Wrote.{held, Puts};
 ghost use Rattle.index.specs.Index.{noIndex, readIndex};
 ghost use Rattle.index.specs.Answers.{numbersOf, listing, listedFor, laidFor, finding, bestOf, foundIn};
-ghost use Rattle.index.specs.Places.{scanOf, Walks};
+ghost use Rattle.index.specs.Places.{wholeWith, scanOf, Walks};
 
 // What reading an index answers: how many entries it has; or the number of the refusal, and then count 0.
 pub struct Listed {
@@ -121,6 +121,22 @@ struct Walked {
     place: usize,
 }
 
+// An index of so many entries, whose last has these numbers.
+fn whole(count: usize, number: u64, offset: u64, length: u64) -> Scanned
+    ensures { λ r. ⌜ r ≡ wholeWith count number offset length ⌝ }
+{
+    let last = Entry {
+        number,
+        offset,
+        length,
+    };
+    Scanned {
+        whole: true,
+        count,
+        last,
+    }
+}
+
 fn no_index(place: usize) -> Walked
     ensures { λ r. ⌜ r .scanned ≡ scanOf noIndex ⌝ }
 {
@@ -168,18 +184,8 @@ fn walk(s: &[u8], number: u64, out: &mut [u64]) -> Walked
             Next::Bad => return no_index(place),
         }
     }
-    let last = Entry {
-        number: passed,
-        offset,
-        length: bytes,
-    };
-    let scanned = Scanned {
-        whole: true,
-        count,
-        last,
-    };
     Walked {
-        scanned,
+        scanned: whole(count, passed, offset, bytes),
         best,
         place,
     }

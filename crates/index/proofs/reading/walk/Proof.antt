@@ -17,6 +17,7 @@ use Rattle.index.proofs.reading.walk.Statement.{statement}
 use Rattle.index.proofs.reading.walk.Tie as tie
 use Rattle.index.proofs.reading.walk.Reads as reads
 use Rattle.index.proofs.reading.walk.Lts as lts
+use Rattle.index.proofs.reading.whole.Reads as whole-reads
 use Rattle.index.proofs.entry_at.Reads as entry-at-reads
 use Rattle.index.proofs.reading.finding.Reads as finding-reads
 use Rattle.index.proofs.reading.found_next.Reads as found-next-reads
@@ -185,21 +186,24 @@ returns-2 c = let last = by (c .before .before .before .before .before .loop .pa
     (scanOn (c .before .before .before .before .before .loop .count) last) none)
 
 -- src/reading.rt:140:1
+whole-requires : tie.Need-whole-requires Inv-loop μ-loop
+whole-requires c κs = tt
+
 same-length-3 : tie.Need-same-length-3 Inv-loop μ-loop
-same-length-3 c = c .before .loop .inv .1 .1 .0
+same-length-3 c = c .before .before .loop .inv .1 .1 .0
 
 -- src/reading.rt:140:1
 returns-3 : tie.Need-returns-3 Inv-loop μ-loop
-returns-3 c = let last = by (c .before .loop .passed) (c .before .loop .offset) (c .before .loop .bytes) in
-    let s = c .before .before .before .before .before .args .s .now in
-    let number = c .before .before .before .before .before .args .number in
-    let best = c .before .loop .best in
-    let count = c .before .loop .count in
-    let inv = c .before .loop .inv in
-    let none = entered-none s (c .before .loop .at) last (c .loop-test .left) in
-    let goes = scan-end count last ∙ sym (inv .1 .1 .1 .0 ∙ ap (scanOn count last) none) in
+returns-3 c = let last = by (c .before .before .loop .passed) (c .before .before .loop .offset) (c .before .before .loop .bytes) in
+    let s = c .before .before .before .before .before .before .args .s .now in
+    let number = c .before .before .before .before .before .before .args .number in
+    let best = c .before .before .loop .best in
+    let count = c .before .before .loop .count in
+    let inv = c .before .before .loop .inv in
+    let none = entered-none s (c .before .before .loop .at) last (c .before .loop-test .left) in
+    let goes = c .whole .ensures ∙ scan-end count last ∙ sym (inv .1 .1 .1 .0 ∙ ap (scanOn count last) none) in
     let finds = find-end best (inv .1 .1 .1 .1 .0) number ∙ sym (inv .1 .1 .1 .1 .1 .0 ∙ ap (λ y. behind best (foundIn number y)) none) in
-    walked-all s number (c .before .before .before .before .before .args .out .now) goes finds
+    walked-all s number (c .before .before .before .before .before .before .args .out .now) goes finds
     (λ r. storing-end (inv .1 .1 .1 .1 .1 .1 r) none)
 
 pub walk-spec : {M : Type 1} → statement M
@@ -225,5 +229,6 @@ walk-spec =
     no-index-requires-2
     same-length-2
     returns-2
+    whole-requires
     same-length-3
     returns-3)
