@@ -27,13 +27,19 @@ unfolding isPadded
 unpadded zero n h k = rw (length-fixed 1 n)
 unpadded (suc m) n h k =
     let f = first-digit (suc m) n (k (omega arith)) h in
-    rw (length-fixed (suc (suc m)) n, le-leb 2 (suc (suc m)) (omega arith), ne-eqb (getD (printFixed (suc (suc m)) n) 0 0) 48 (λ e. let z : ⊥ = omega (arith, e, f) in absurd z))
+    rw (
+      length-fixed (suc (suc m)) n,
+      le-leb 2 (suc (suc m)) (omega arith),
+      ne-eqb (getD (printFixed (suc (suc m)) n) 0 0) 48
+          (λ e. let z : ⊥ = omega (arith, e, f) in absurd z),
+    )
 
 few : (m n : ℕ) → n ≤ most → (1 ≤ m → 10 ^ m ≤ n) → m ≤ 9
 few m n l k = go (leb 10 m) refl
   where
     go : (t : Bool) → leb 10 m ≡ t → m ≤ 9
-    go true e = let z : ⊥ = omega (arith, l, k (omega (arith, leb-true 10 m e)), pow-le-pow-right {n = 10} (lit< tt) (leb-true 10 m e)) in absurd z
+    go true e = let z : ⊥ = omega (arith, l, k (omega (arith, leb-true 10 m e)), pow-le-pow-right {n = 10} (lit< tt) (leb-true 10 m e)) in
+        absurd z
     go false e = omega (arith, leb-false 10 m e)
 
 value : (m n : ℕ) → n < 10 ^ suc m → digitsFrom 0 (printFixed (suc m) n) ≡ some n

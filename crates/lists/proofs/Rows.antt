@@ -43,7 +43,8 @@ module _ (t : List ℕ) (a : ℕ) (ea : a ≡ 0 + blanks (drop 0 t)) where
   unfolding rowOf
   first h = rw (← ea, lt-leb _ _ h)
 
-  module _ (b c d e : ℕ) (la : a < length t) (eb : b ≡ a + width (drop a t)) (ec : c ≡ b + blanks (drop b t)) (ed : d ≡ c + width (drop c t)) (ee : e ≡ d + blanks (drop d t)) where
+  module _ (b c d e : ℕ) (la : a < length t) (eb : b ≡ a + width (drop a t)) (ec : c ≡ b + blanks (drop b t))
+      (ed : d ≡ c + width (drop c t)) (ee : e ≡ d + blanks (drop d t)) where
     second : behind t a ≡ c
     second = rw (← eb) (sym ec)
 
@@ -64,7 +65,8 @@ module _ (t : List ℕ) (a : ℕ) (ea : a ≡ 0 + blanks (drop 0 t)) where
     unfolding twoWords
     two h = rw (third, le-ltb _ _ h)
 
-    parts : pairOf (numberOf (take (b - a) (drop a t))) (numberOf (take (d - c) (drop c t))) ≡ pairOf (numberOf (wordAt t a)) (numberOf (wordAt t c))
+    parts : pairOf (numberOf (take (b - a) (drop a t))) (numberOf (take (d - c) (drop c t))) ≡ pairOf (numberOf (wordAt t a))
+        (numberOf (wordAt t c))
     parts = rw (let z : b - a ≡ width (drop a t) = omega (arith, eb) in z, let z : d - c ≡ width (drop c t) = omega (arith, ed) in z)
 
     pub row-two : length t ≤ e → pairOf (numberOf (take (b - a) (drop a t))) (numberOf (take (d - c) (drop c t))) ≡ rowOf t
@@ -73,7 +75,8 @@ module _ (t : List ℕ) (a : ℕ) (ea : a ≡ 0 + blanks (drop 0 t)) where
 -- The length without the CR is no longer.
 pub body-within : (s : List ℕ) → bodyLength s ≤ length s
 unfolding bodyLength
-body-within s = cond-le (leb 1 (length s) && eqb (getD s (length s - 1) 0) 13) (length s - 1) (length s) (length s) (omega arith) (omega arith)
+body-within s = cond-le (leb 1 (length s) && eqb (getD s (length s - 1) 0) 13) (length s - 1) (length s) (length s) (omega arith)
+    (omega arith)
 
 pub body-front : (s : List ℕ) (n : ℕ) → n ≡ bodyLength s → rowOf (take (n - 0) s) ≡ rowOf (take (bodyLength s) s)
 body-front s n e = ap (λ (k : ℕ). rowOf (take k s)) (let z : n - 0 ≡ bodyLength s = omega (arith, e) in z)

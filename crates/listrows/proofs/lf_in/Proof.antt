@@ -17,7 +17,11 @@ add-result : tie.Need-add-result
 add-result c =
     let a = c .before .before .before .before .before .args .w .at in
     let e = c .before .before .before .before .before .args .w .end in
-    omega (arith, within 10 (e - a) (drop a (c .before .before .before .before .before .args .buf .now)) (c .find .result) (c .find .ensures))
+    omega (
+      arith,
+      within 10 (e - a) (drop a (c .before .before .before .before .before .args .buf .now)) (c .find .result)
+          (c .find .ensures),
+    )
 
 pub lf-in-spec : {M : Type 1} → statement M
 lf-in-spec =

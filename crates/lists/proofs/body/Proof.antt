@@ -30,7 +30,10 @@ past-blanks-requires-3 : tie.Need-past-blanks-requires-3
 past-blanks-requires-3 c κs = search needs
 
 returns-2 : tie.Need-returns-2
-returns-2 c = row-more _ _ (c .before .before .before .before .before .before .past-blanks .ensures) _ _ _ _ (c .before .before .before .before .before .if1 .left) (c .before .before .before .before .past-word .ensures) (c .before .before .before .past-blanks2 .ensures) (c .before .before .past-word2 .ensures) (c .before .past-blanks3 .ensures) (c .if2 .taken)
+returns-2 c = row-more _ _ (c .before .before .before .before .before .before .past-blanks .ensures) _ _ _ _
+    (c .before .before .before .before .before .if1 .left) (c .before .before .before .before .past-word .ensures)
+    (c .before .before .before .past-blanks2 .ensures) (c .before .before .past-word2 .ensures) (c .before .past-blanks3 .ensures)
+    (c .if2 .taken)
 
 sub-parse : tie.Need-sub-parse
 sub-parse c = search needs
@@ -39,7 +42,10 @@ part-parse-start : tie.Need-part-parse-start
 part-parse-start c = search needs
 
 part-parse-end : tie.Need-part-parse-end
-part-parse-end c = let i = width-within (c .before .before .before .before .before .before .before .before .args .t .now) (c .before .before .before .before .before .before .past-blanks .result) (c .before .before .before .before .past-word .result) (omega (arith, c .before .before .before .before .before .if1 .left)) (c .before .before .before .before .past-word .ensures) in search needs
+part-parse-end c = let i = width-within (c .before .before .before .before .before .before .before .before .args .t .now)
+    (c .before .before .before .before .before .before .past-blanks .result) (c .before .before .before .before .past-word .result)
+    (omega (arith, c .before .before .before .before .before .if1 .left)) (c .before .before .before .before .past-word .ensures) in
+    search needs
 
 parse-requires : tie.Need-parse-requires
 parse-requires c κs = search needs
@@ -52,9 +58,18 @@ part-parse-start-2 c = search needs
 
 part-parse-end-2 : tie.Need-part-parse-end-2
 part-parse-end-2 c =
-    let i = width-within (c .before .before .before .before .before .before .before .before .before .before .args .t .now) (c .before .before .before .before .before .before .before .before .past-blanks .result) (c .before .before .before .before .before .before .past-word .result) (omega (arith, c .before .before .before .before .before .before .before .if1 .left)) (c .before .before .before .before .before .before .past-word .ensures) in
-    let j = blanks-within (c .before .before .before .before .before .before .before .before .before .before .args .t .now) (c .before .before .before .before .before .before .past-word .result) (c .before .before .before .before .before .past-blanks2 .result) i (c .before .before .before .before .before .past-blanks2 .ensures) in
-    let k = width-within (c .before .before .before .before .before .before .before .before .before .before .args .t .now) (c .before .before .before .before .before .past-blanks2 .result) (c .before .before .before .before .past-word2 .result) j (c .before .before .before .before .past-word2 .ensures) in
+    let i = width-within (c .before .before .before .before .before .before .before .before .before .before .args .t .now)
+    (c .before .before .before .before .before .before .before .before .past-blanks .result)
+    (c .before .before .before .before .before .before .past-word .result)
+    (omega (arith, c .before .before .before .before .before .before .before .if1 .left))
+    (c .before .before .before .before .before .before .past-word .ensures) in
+    let j = blanks-within (c .before .before .before .before .before .before .before .before .before .before .args .t .now)
+    (c .before .before .before .before .before .before .past-word .result)
+    (c .before .before .before .before .before .past-blanks2 .result) i
+    (c .before .before .before .before .before .past-blanks2 .ensures) in
+    let k = width-within (c .before .before .before .before .before .before .before .before .before .before .args .t .now)
+    (c .before .before .before .before .before .past-blanks2 .result) (c .before .before .before .before .past-word2 .result) j
+    (c .before .before .before .before .past-word2 .ensures) in
     search needs
 
 parse-requires-2 : tie.Need-parse-requires-2
@@ -64,7 +79,19 @@ pair-requires : tie.Need-pair-requires
 pair-requires c κs = search needs
 
 returns-3 : tie.Need-returns-3
-returns-3 c = c .pair .ensures ∙ rw (c .before .before .before .parse .ensures, c .before .parse2 .ensures) (row-two (c .before .before .before .before .before .before .before .before .before .before .before .before .before .args .t .now) (c .before .before .before .before .before .before .before .before .before .before .before .past-blanks .result) (c .before .before .before .before .before .before .before .before .before .before .before .past-blanks .ensures) (c .before .before .before .before .before .before .before .before .before .past-word .result) (c .before .before .before .before .before .before .before .before .past-blanks2 .result) (c .before .before .before .before .before .before .before .past-word2 .result) (c .before .before .before .before .before .before .past-blanks3 .result) (c .before .before .before .before .before .before .before .before .before .before .if1 .left) (c .before .before .before .before .before .before .before .before .before .past-word .ensures) (c .before .before .before .before .before .before .before .before .past-blanks2 .ensures) (c .before .before .before .before .before .before .before .past-word2 .ensures) (c .before .before .before .before .before .before .past-blanks3 .ensures) (c .before .before .before .before .before .if2 .left))
+returns-3 c = c .pair .ensures ∙ rw (c .before .before .before .parse .ensures, c .before .parse2 .ensures)
+    (row-two (c .before .before .before .before .before .before .before .before .before .before .before .before .before .args .t .now)
+    (c .before .before .before .before .before .before .before .before .before .before .before .past-blanks .result)
+    (c .before .before .before .before .before .before .before .before .before .before .before .past-blanks .ensures)
+    (c .before .before .before .before .before .before .before .before .before .past-word .result)
+    (c .before .before .before .before .before .before .before .before .past-blanks2 .result)
+    (c .before .before .before .before .before .before .before .past-word2 .result)
+    (c .before .before .before .before .before .before .past-blanks3 .result)
+    (c .before .before .before .before .before .before .before .before .before .before .if1 .left)
+    (c .before .before .before .before .before .before .before .before .before .past-word .ensures)
+    (c .before .before .before .before .before .before .before .before .past-blanks2 .ensures)
+    (c .before .before .before .before .before .before .before .past-word2 .ensures)
+    (c .before .before .before .before .before .before .past-blanks3 .ensures) (c .before .before .before .before .before .if2 .left))
 
 pub body-spec : {M : Type 1} → statement M
 body-spec =

@@ -23,7 +23,13 @@ is-padded-requires c κs = search needs
 
 returns-3 : tie.Need-returns-3
 unfolding numberOf
-returns-3 c = rw (le-leb _ _ (c .before .before .before .if1 .left), le-leb _ _ (c .before .before .if2 .left), ← c .before .is-padded .ensures, c .if3 .taken)
+returns-3 c = rw (
+  le-leb _ _ (c .before .before .before .if1 .left),
+  le-leb _ _ (c .before .before .if2 .left),
+  ←
+      c .before .is-padded .ensures,
+  c .if3 .taken,
+)
 
 scan-requires : tie.Need-scan-requires
 scan-requires c κs = search needs
@@ -33,7 +39,14 @@ up-to-requires c κs = search needs
 
 returns-4 : tie.Need-returns-4
 unfolding numberOf
-returns-4 c = c .up-to .ensures ∙ rw (c .before .scan .ensures, le-leb _ _ (c .before .before .before .before .before .if1 .left), le-leb _ _ (c .before .before .before .before .if2 .left), ← c .before .before .before .is-padded .ensures, c .before .before .if3 .left)
+returns-4 c = c .up-to .ensures ∙ rw (
+  c .before .scan .ensures,
+  le-leb _ _ (c .before .before .before .before .before .if1 .left),
+  le-leb _ _
+      (c .before .before .before .before .if2 .left),
+  ← c .before .before .before .is-padded .ensures,
+  c .before .before .if3 .left,
+)
 
 pub parse-spec : {M : Type 1} → statement M
 parse-spec =

@@ -17,10 +17,20 @@ abbrev μ-loop : tie.MeasureT-loop
 μ-loop s at i₀ i = length s - i
 
 returns : tie.Need-returns Inv-loop μ-loop
-returns c = omega (arith, blanks-stop (c .before .before .before .before .before .before .args .s .now) (c .before .before .before .before .loop .i) (c .before .before .before .loop-test .taken) (sym (c .before .is-blank .ensures) ∙ not-true _ (c .if1 .taken)))
+returns c = omega (
+  arith,
+  blanks-stop (c .before .before .before .before .before .before .args .s .now)
+      (c .before .before .before .before .loop .i) (c .before .before .before .loop-test .taken)
+      (sym (c .before .is-blank .ensures) ∙ not-true _ (c .if1 .taken)),
+)
 
 loop-again : tie.Need-loop-again Inv-loop μ-loop
-loop-again c = omega (arith, blanks-on (c .before .before .before .before .before .before .args .s .now) (c .before .before .before .before .loop .i) (c .before .before .before .loop-test .taken) (sym (c .before .is-blank .ensures) ∙ not-false _ (c .if1 .left)))
+loop-again c = omega (
+  arith,
+  blanks-on (c .before .before .before .before .before .before .args .s .now)
+      (c .before .before .before .before .loop .i) (c .before .before .before .loop-test .taken)
+      (sym (c .before .is-blank .ensures) ∙ not-false _ (c .if1 .left)),
+)
 
 returns-2 : tie.Need-returns-2 Inv-loop μ-loop
 returns-2 c = omega (arith, blanks-end (c .before .before .before .args .s .now) (c .before .loop .i) (c .loop-test .left))

@@ -20,13 +20,15 @@ part-body-start : tie.Need-part-body-start
 part-body-start c = search needs
 
 part-body-end : tie.Need-part-body-end
-part-body-end c = let i : c .body-length .result ≤ length (c .before .before .args .s .now) = rw (c .body-length .ensures) (body-within (c .before .before .args .s .now)) in search needs
+part-body-end c = let i : c .body-length .result ≤ length (c .before .before .args .s .now) = rw (c .body-length .ensures)
+    (body-within (c .before .before .args .s .now)) in search needs
 
 body-requires : tie.Need-body-requires
 body-requires c κs = search needs
 
 returns : tie.Need-returns
-returns c = c .body .ensures ∙ body-front (c .before .before .before .before .args .s .now) (c .before .before .body-length .result) (c .before .before .body-length .ensures)
+returns c = c .body .ensures ∙ body-front (c .before .before .before .before .args .s .now) (c .before .before .body-length .result)
+    (c .before .before .body-length .ensures)
 
 pub read-row-spec : {M : Type 1} → statement M
 read-row-spec =

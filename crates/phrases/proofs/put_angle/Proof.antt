@@ -7,7 +7,9 @@ use Rattle.phrases.proofs.put_angle.Tie as tie
 
 returns : tie.Need-returns
 unfolding angleWords
-returns c = c .before .before .before .before .before .before .before .before .before .before .before .before .before .before .put-counted .ensures ⨾ c .before .before .before .before .before .before .before .before .before .before .put-number .ensures ⨾ (c .before .before .before .before .before .before .put .ensures ⨾ c .before .before .put-four .ensures)
+returns c = c .before .before .before .before .before .before .before .before .before .before .before .before .before .before .put-counted
+    .ensures ⨾ c .before .before .before .before .before .before .before .before .before .before .put-number .ensures ⨾
+    (c .before .before .before .before .before .before .put .ensures ⨾ c .before .before .put-four .ensures)
 
 pub put-angle-spec : {M : Type 1} → statement M
 put-angle-spec =

@@ -7,7 +7,9 @@ use Rattle.phrases.proofs.put_clock.Tie as tie
 
 returns : tie.Need-returns
 unfolding clockWords
-returns c = c .before .before .before .before .before .before .before .before .before .before .before .before .before .before .put-two .ensures ⨾ c .before .before .before .before .before .before .before .before .before .before .put-pair .ensures ⨾ c .before .before .before .before .before .before .put-pair2 .ensures ⨾ c .before .before .put-pair3 .ensures
+returns c = c .before .before .before .before .before .before .before .before .before .before .before .before .before .before .put-two
+    .ensures ⨾ c .before .before .before .before .before .before .before .before .before .before .put-pair .ensures ⨾
+    c .before .before .before .before .before .before .put-pair2 .ensures ⨾ c .before .before .put-pair3 .ensures
 
 pub put-clock-spec : {M : Type 1} → statement M
 put-clock-spec =

@@ -7,7 +7,12 @@ use Rattle.phrases.proofs.put_height.Tie as tie
 
 returns : tie.Need-returns
 unfolding heightWords
-returns c = (rw (c .before .before .before .before .before .before .before .before .pick .ensures, c .before .before .before .before .before .before .before .before .before .before .before .is-minus .ensures) at (c .before .before .before .before .before .before .before .put-bytes .ensures)) ⨾ (rw (c .before .before .before .size .ensures) at (c .before .before .put-number .ensures))
+returns c = (rw (
+  c .before .before .before .before .before .before .before .before .pick .ensures,
+  c .before .before .before .before .before .before .before .before .before .before .before .is-minus .ensures,
+) at
+    (c .before .before .before .before .before .before .before .put-bytes .ensures)) ⨾
+    (rw (c .before .before .before .size .ensures) at (c .before .before .put-number .ensures))
 
 pub put-height-spec : {M : Type 1} → statement M
 put-height-spec =

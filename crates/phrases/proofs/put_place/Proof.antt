@@ -7,7 +7,21 @@ use Rattle.phrases.proofs.put_place.Tie as tie
 
 returns : tie.Need-returns
 unfolding placeWords
-returns c = (rw (c .before .before .before .before .before .before .before .before .before .before .before .before .before .before .before .before .before .before .before .before .before .before .before .before .size .ensures) at (c .before .before .before .before .before .before .before .before .before .before .before .before .before .before .before .before .before .before .before .before .before .before .before .put-angle .ensures)) ⨾ (rw (c .before .before .before .before .before .before .before .before .before .before .before .before .before .before .before .before .pick .ensures, c .before .before .before .before .before .before .before .before .before .before .before .before .before .before .before .before .before .before .before .is-minus .ensures) at (c .before .before .before .before .before .before .before .before .before .before .before .before .before .before .before .put-bytes .ensures)) ⨾ (rw (c .before .before .before .before .before .before .before .before .before .before .before .size2 .ensures) at (c .before .before .before .before .before .before .before .before .before .before .put-angle2 .ensures)) ⨾ (rw (c .before .before .before .pick2 .ensures, c .before .before .before .before .before .before .is-minus2 .ensures) at (c .before .before .put-bytes2 .ensures))
+returns c = (rw (c .before .before .before .before .before .before .before .before .before .before .before .before .before .before .before
+    .before .before .before .before .before .before .before .before .before .size .ensures) at
+    (c .before .before .before .before .before .before .before .before .before .before .before .before .before .before .before .before
+    .before .before .before .before .before .before .before .put-angle .ensures)) ⨾
+    (rw (
+      c .before .before .before .before .before .before .before .before .before .before .before .before .before .before .before .before
+          .pick .ensures,
+      c .before .before .before .before .before .before .before .before .before .before .before .before .before .before
+          .before .before .before .before .before .is-minus .ensures,
+    ) at
+    (c .before .before .before .before .before .before .before .before .before .before .before .before .before .before .before .put-bytes
+    .ensures)) ⨾ (rw (c .before .before .before .before .before .before .before .before .before .before .before .size2 .ensures) at
+    (c .before .before .before .before .before .before .before .before .before .before .put-angle2 .ensures)) ⨾
+    (rw (c .before .before .before .pick2 .ensures, c .before .before .before .before .before .before .is-minus2 .ensures) at
+    (c .before .before .put-bytes2 .ensures))
 
 pub put-place-spec : {M : Type 1} → statement M
 put-place-spec =

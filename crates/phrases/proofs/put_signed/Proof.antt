@@ -12,11 +12,21 @@ returns c = rw (eq-eqb _ _ (c .before .before .before .before .if1 .taken)) (c .
 
 returns-2 : tie.Need-returns-2
 unfolding signedText
-returns-2 c = rw (ne-eqb _ _ (c .before .before .before .before .before .if1 .left), eq-eqb _ _ (c .before .before .before .before .if2 .taken)) (c .before .before .put-variation .ensures)
+returns-2 c = rw (
+  ne-eqb _ _ (c .before .before .before .before .before .if1 .left),
+  eq-eqb _ _
+      (c .before .before .before .before .if2 .taken),
+) (c .before .before .put-variation .ensures)
 
 returns-3 : tie.Need-returns-3
 unfolding signedText
-returns-3 c = rw (ne-eqb _ _ (c .before .before .before .before .before .before .if1 .left), ne-eqb _ _ (c .before .before .before .before .before .if2 .left), eq-eqb _ _ (c .before .before .before .before .if3 .taken)) (c .before .before .put-zone .ensures)
+returns-3 c = rw (
+  ne-eqb _ _ (c .before .before .before .before .before .before .if1 .left),
+  ne-eqb _ _
+      (c .before .before .before .before .before .if2 .left),
+  eq-eqb _ _ (c .before .before .before .before .if3 .taken),
+)
+    (c .before .before .put-zone .ensures)
 
 returns-4 : tie.Need-returns-4
 unfolding signedText

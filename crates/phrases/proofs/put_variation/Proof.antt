@@ -7,7 +7,10 @@ use Rattle.phrases.proofs.put_variation.Tie as tie
 
 returns : tie.Need-returns
 unfolding variationWords
-returns c = (rw (c .before .before .before .before .before .before .before .before .before .before .before .size .ensures) at (c .before .before .before .before .before .before .before .before .before .before .put-number .ensures)) ⨾ (rw (c .before .before .before .pick .ensures, c .before .before .before .before .before .before .is-minus .ensures) at (c .before .before .put-bytes .ensures))
+returns c = (rw (c .before .before .before .before .before .before .before .before .before .before .before .size .ensures) at
+    (c .before .before .before .before .before .before .before .before .before .before .put-number .ensures)) ⨾
+    (rw (c .before .before .before .pick .ensures, c .before .before .before .before .before .before .is-minus .ensures) at
+    (c .before .before .put-bytes .ensures))
 
 pub put-variation-spec : {M : Type 1} → statement M
 put-variation-spec =

@@ -7,7 +7,16 @@ use Rattle.phrases.proofs.put_zone.Tie as tie
 
 returns : tie.Need-returns
 unfolding zoneWords
-returns c = (rw (c .before .before .before .before .before .before .before .before .before .before .before .before .before .pick .ensures, c .before .before .before .before .before .before .before .before .before .before .before .before .before .before .before .before .is-minus .ensures) at (c .before .before .before .before .before .before .before .before .before .before .before .before .put-bytes .ensures)) ⨾ (rw (c .before .before .before .before .before .before .before .before .before .before .before .before .before .before .before .before .before .before .size .ensures) at (c .before .before .before .before .before .before .before .before .put-hours .ensures)) ⨾ (rw (c .before .before .before .before .before .before .before .before .before .before .before .before .before .before .before .before .before .before .size .ensures) at (c .before .before .put-counted .ensures))
+returns c = (rw (
+  c .before .before .before .before .before .before .before .before .before .before .before .before .before .pick .ensures,
+  c .before .before .before .before .before .before .before .before .before .before .before .before .before .before .before .before
+      .is-minus .ensures,
+) at (c .before .before .before .before .before .before .before .before .before .before .before .before .put-bytes
+    .ensures)) ⨾ (rw (c .before .before .before .before .before .before .before .before .before .before .before .before .before .before
+    .before .before .before .before .size .ensures) at
+    (c .before .before .before .before .before .before .before .before .put-hours .ensures)) ⨾
+    (rw (c .before .before .before .before .before .before .before .before .before .before .before .before .before .before .before .before
+    .before .before .size .ensures) at (c .before .before .put-counted .ensures))
 
 pub put-zone-spec : {M : Type 1} → statement M
 put-zone-spec =

@@ -6,7 +6,8 @@ use Rattle.storing.proofs.store_listed.Statement.{statement}
 use Rattle.storing.proofs.store_listed.Tie as tie
 
 abbrev Inv-loop : tie.InvT-loop
-Inv-loop log fd buf₀ list₀ out₀ s₀ left₀ buf list out s left = (length buf ≡ length buf₀) × (length list ≡ length list₀) × (length out ≡ length out₀)
+Inv-loop log fd buf₀ list₀ out₀ s₀ left₀ buf list out s left = (length buf ≡ length buf₀) × (length list ≡ length list₀) ×
+    (length out ≡ length out₀)
 
 abbrev μ-loop : tie.MeasureT-loop
 μ-loop log fd buf₀ list₀ out₀ s₀ left₀ buf list out s left = left

@@ -22,10 +22,24 @@ loop-holds : tie.Need-loop-holds Inv-loop μ-loop
 loop-holds c = (omega (arith, c .few .ensures), (refl, rw (c .few .ensures)))
 
 loop-again : tie.Need-loop-again Inv-loop μ-loop
-loop-again c = (omega arith, (omega arith, entries-next (c .before .before .before .before .before .before .before .before .before .before .before .args .numbers .now) (c .before .before .before .before .before .before .before .loop .left) (c .before .before .before .before .before .before .before .loop .from) (c .before .before .before .before .before .before .loop-test .taken) (c .before .before .put-table .ensures) ∙ c .before .before .before .before .before .before .before .loop .inv .1 .1))
+loop-again c = (
+  omega arith,
+  (
+    omega arith,
+    entries-next
+        (c .before .before .before .before .before .before .before .before .before .before .before .args .numbers .now)
+        (c .before .before .before .before .before .before .before .loop .left)
+        (c .before .before .before .before .before .before .before .loop .from)
+        (c .before .before .before .before .before .before .loop-test .taken) (c .before .before .put-table .ensures) ∙
+        c .before .before .before .before .before .before .before .loop .inv .1 .1,
+  ),
+)
 
 returns : tie.Need-returns Inv-loop μ-loop
-returns c = record { is = entries-end (c .before .before .before .before .before .args .numbers .now) (c .before .loop .left) (c .before .loop .from) (held (c .before .loop .a) (c .before .loop .out)) (c .loop-test .left) ∙ c .before .loop .inv .1 .1 }
+returns c = record {
+  is = entries-end (c .before .before .before .before .before .args .numbers .now) (c .before .loop .left)
+      (c .before .loop .from) (held (c .before .loop .a) (c .before .loop .out)) (c .loop-test .left) ∙ c .before .loop .inv .1 .1;
+}
 
 pub put-entries-spec : {M : Type 1} → statement M
 put-entries-spec =

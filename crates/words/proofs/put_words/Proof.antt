@@ -8,11 +8,19 @@ use Rattle.words.proofs.put_words.Tie as tie
 
 returns : tie.Need-returns
 unfolding wordsText
-returns c = rw (eq-eqb _ _ (c .before .before .before .before .before .if1 .taken)) ((rw (c .before .before .before .before .before .before .before .before .before .before .before .nth-of .ensures, c .before .before .before .before .before .before .before .before .before .talkers .ensures) at (c .before .before .before .before .before .before .before .before .put-table .ensures)) ⨾ (rw (c .before .before .before .at .ensures) at (c .before .before .put-entries .ensures)))
+returns c = rw (eq-eqb _ _ (c .before .before .before .before .before .if1 .taken))
+    ((rw (
+      c .before .before .before .before .before .before .before .before .before .before .before .nth-of .ensures,
+      c .before .before .before .before .before .before .before .before .before .talkers .ensures,
+    ) at
+    (c .before .before .before .before .before .before .before .before .put-table .ensures)) ⨾
+    (rw (c .before .before .before .at .ensures) at (c .before .before .put-entries .ensures)))
 
 returns-2 : tie.Need-returns-2
 unfolding wordsText
-returns-2 c = rw (ne-eqb _ _ (c .if1 .left)) ((rw (c .before .before .before .before .before .before .nth-of .ensures, c .before .before .before .before .talkers .ensures) at (c .before .before .before .put-table .ensures)) ⨾ nothing-put _)
+returns-2 c = rw (ne-eqb _ _ (c .if1 .left))
+    ((rw (c .before .before .before .before .before .before .nth-of .ensures, c .before .before .before .before .talkers .ensures) at
+    (c .before .before .before .put-table .ensures)) ⨾ nothing-put _)
 
 pub put-words-spec : {M : Type 1} → statement M
 put-words-spec =

@@ -24,23 +24,32 @@ abbrev below : ℕ → In 1 ps
 below t = and 1 ps (falls 1 ps _<_ μ t) reads.Pre
 
 module _ (t : ℕ) where
-  returns : lts.Need-returns (below t, reads.Post, hex-of-reads.Asked, hex-of-reads.Learnt, put-reads.Asked, put-reads.Learnt) (at t) reads.Post
+  returns : lts.Need-returns (below t, reads.Post, hex-of-reads.Asked, hex-of-reads.Learnt, put-reads.Asked, put-reads.Learnt) (at t)
+      reads.Post
   returns c = no-digits _ (c .before .before .args .width) (c .before .before .args .v) (c .if1 .taken)
 
-  one-less : lts.Need-sub-put-hex (below t, reads.Post, hex-of-reads.Asked, hex-of-reads.Learnt, put-reads.Asked, put-reads.Learnt) (at t) reads.Post
+  one-less : lts.Need-sub-put-hex (below t, reads.Post, hex-of-reads.Asked, hex-of-reads.Learnt, put-reads.Asked, put-reads.Learnt) (at t)
+      reads.Post
   one-less c = omega (arith, c .before .if1 .left)
 
-  smaller : lts.Need-put-hex-requires (below t, reads.Post, hex-of-reads.Asked, hex-of-reads.Learnt, put-reads.Asked, put-reads.Learnt) (at t) reads.Post
+  smaller : lts.Need-put-hex-requires (below t, reads.Post, hex-of-reads.Asked, hex-of-reads.Learnt, put-reads.Asked, put-reads.Learnt)
+      (at t) reads.Post
   smaller c κs = (omega (arith, c .before .before .before .pre .0, c .before .if1 .left), tt)
 
-  fits : lts.Need-cast-hex-of (below t, reads.Post, hex-of-reads.Asked, hex-of-reads.Learnt, put-reads.Asked, put-reads.Learnt) (at t) reads.Post
+  fits : lts.Need-cast-hex-of (below t, reads.Post, hex-of-reads.Asked, hex-of-reads.Learnt, put-reads.Asked, put-reads.Learnt) (at t)
+      reads.Post
   fits c = omega arith
 
-  same-length : lts.Need-same-length (below t, reads.Post, hex-of-reads.Asked, hex-of-reads.Learnt, put-reads.Asked, put-reads.Learnt) (at t) reads.Post
+  same-length : lts.Need-same-length (below t, reads.Post, hex-of-reads.Asked, hex-of-reads.Learnt, put-reads.Asked, put-reads.Learnt)
+      (at t) reads.Post
   same-length c = c .before .before .put .kept .0 ∙ c .before .before .before .before .before .before .before .put-hex .kept .0
 
-  returns-2 : lts.Need-returns-2 (below t, reads.Post, hex-of-reads.Asked, hex-of-reads.Learnt, put-reads.Asked, put-reads.Learnt) (at t) reads.Post
-  returns-2 c = more-digits (c .before .before .before .before .before .before .before .before .before .before .before .args .width) (c .before .before .before .before .before .before .before .before .before .before .before .args .v) _ (c .before .before .before .before .before .before .before .before .before .if1 .left) (c .before .before .before .hex-of .ensures) (c .before .before .before .before .before .before .before .put-hex .ensures) (c .before .before .put .ensures)
+  returns-2 : lts.Need-returns-2 (below t, reads.Post, hex-of-reads.Asked, hex-of-reads.Learnt, put-reads.Asked, put-reads.Learnt) (at t)
+      reads.Post
+  returns-2 c = more-digits (c .before .before .before .before .before .before .before .before .before .before .before .args .width)
+      (c .before .before .before .before .before .before .before .before .before .before .before .args .v) _
+      (c .before .before .before .before .before .before .before .before .before .if1 .left) (c .before .before .before .hex-of .ensures)
+      (c .before .before .before .before .before .before .before .put-hex .ensures) (c .before .before .put .ensures)
 
 pub +put-hex-spec : {M : Type 1} → statement M
 +put-hex-spec =

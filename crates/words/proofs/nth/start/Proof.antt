@@ -18,7 +18,11 @@ abbrev μ-loop : tie.MeasureT-loop
 μ-loop s d n k₀ i₀ k i = length s - i
 
 returns : tie.Need-returns Inv-loop μ-loop
-returns c = (omega arith, behind-none (c .before .before .before .args .d) (c .before .before .loop .k) _ (c .if1 .taken) ∙ c .before .before .loop .inv .1)
+returns c = (
+  omega arith,
+  behind-none (c .before .before .before .args .d) (c .before .before .loop .k) _ (c .if1 .taken) ∙
+      c .before .before .loop .inv .1,
+)
 
 loop-again : tie.Need-loop-again Inv-loop μ-loop
 loop-again c =
@@ -26,8 +30,12 @@ loop-again c =
     let s = c .before .before .before .before .before .args .s .now in
     let i = c .before .before .before .before .loop .i in
     let k = c .before .before .before .before .loop .k in
-    let h = c .before .before .before .loop-test .taken in
-    (omega arith, ⊎-elim (λ w. rw (w .1) (behind-next d s i h k (c .before .before .if1 .left) (w .0 .taken))) (λ w. rw (w .1) (behind-other d s i h k (c .before .before .if1 .left) (w .0 .left))) (c .if2 .came) ∙ c .before .before .before .before .loop .inv .1)
+    let h = c .before .before .before .loop-test .taken in (
+      omega arith,
+      ⊎-elim (λ w. rw (w .1) (behind-next d s i h k (c .before .before .if1 .left) (w .0 .taken)))
+          (λ w. rw (w .1) (behind-other d s i h k (c .before .before .if1 .left) (w .0 .left))) (c .if2 .came) ∙
+          c .before .before .before .before .loop .inv .1,
+    )
 
 returns-2 : tie.Need-returns-2 Inv-loop μ-loop
 returns-2 c = (omega arith, behind-end _ _ _ (c .before .loop .k) (c .loop-test .left) ∙ c .before .loop .inv .1)

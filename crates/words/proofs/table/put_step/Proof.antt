@@ -16,7 +16,13 @@ returns-2 c = rw (ne-eqb _ _ (c .before .before .if1 .left), ← c .before .is-s
 
 returns-3 : tie.Need-returns-3
 unfolding stepText
-returns-3 c = rw (ne-eqb _ _ (c .before .before .before .before .before .before .if1 .left), ← c .before .before .before .before .before .is-silent .ensures, c .before .before .before .before .if2 .left) (c .before .before .put .ensures)
+returns-3 c = rw (
+  ne-eqb _ _ (c .before .before .before .before .before .before .if1 .left),
+  ←
+      c .before .before .before .before .before .is-silent .ensures,
+  c .before .before .before .before .if2 .left,
+)
+    (c .before .before .put .ensures)
 
 pub put-step-spec : {M : Type 1} → statement M
 put-step-spec =

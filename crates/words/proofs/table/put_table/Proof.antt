@@ -22,10 +22,32 @@ loop-holds : tie.Need-loop-holds Inv-loop μ-loop
 loop-holds c = (omega arith, (c .past .ensures .0, (refl, rw (c .past .ensures .1))))
 
 loop-again : tie.Need-loop-again Inv-loop μ-loop
-loop-again c = (omega arith, (c .before .past2 .ensures .0, (omega arith, fill-next (c .before .before .before .before .before .before .before .before .before .before .before .before .before .before .before .args .table .now) (c .before .before .before .before .before .before .before .before .before .before .before .before .before .before .before .args .numbers .now) (c .before .before .before .before .before .before .before .before .before .before .loop .i) (c .before .before .before .before .before .before .before .before .before .before .loop .q) (c .before .before .before .before .before .before .before .before .before .before .loop .n) (c .before .before .before .before .before .before .before .before .before .loop-test .taken) (c .state .result) (c .before .past2 .result) (c .before .before .taken .result) (c .before .before .before .before .before .put-step .ensures) (c .before .before .taken .ensures) (c .before .past2 .ensures .1) (c .state .ensures) ∙ c .before .before .before .before .before .before .before .before .before .before .loop .inv .1 .1 .1)))
+loop-again c = (
+  omega arith,
+  (
+    c .before .past2 .ensures .0,
+    (
+      omega arith,
+      fill-next (c .before .before .before .before .before .before .before .before .before .before .before .before .before
+          .before .before .args .table .now)
+          (c .before .before .before .before .before .before .before .before .before .before .before .before .before .before .before .args
+          .numbers .now) (c .before .before .before .before .before .before .before .before .before .before .loop .i)
+          (c .before .before .before .before .before .before .before .before .before .before .loop .q)
+          (c .before .before .before .before .before .before .before .before .before .before .loop .n)
+          (c .before .before .before .before .before .before .before .before .before .loop-test .taken) (c .state .result)
+          (c .before .past2 .result) (c .before .before .taken .result) (c .before .before .before .before .before .put-step .ensures)
+          (c .before .before .taken .ensures) (c .before .past2 .ensures .1) (c .state .ensures) ∙
+          c .before .before .before .before .before .before .before .before .before .before .loop .inv .1 .1 .1,
+    ),
+  ),
+)
 
 returns : tie.Need-returns Inv-loop μ-loop
-returns c = record { is = fill-end (c .before .before .before .before .before .before .args .table .now) (drop (c .before .loop .n) (c .before .before .before .before .before .before .args .numbers .now)) (c .before .loop .i) (c .before .loop .q) (held (c .before .loop .a) (c .before .loop .out)) (c .loop-test .left) ∙ c .before .loop .inv .1 .1 .1 }
+returns c = record {
+  is = fill-end (c .before .before .before .before .before .before .args .table .now)
+      (drop (c .before .loop .n) (c .before .before .before .before .before .before .args .numbers .now)) (c .before .loop .i)
+      (c .before .loop .q) (held (c .before .loop .a) (c .before .loop .out)) (c .loop-test .left) ∙ c .before .loop .inv .1 .1 .1;
+}
 
 pub put-table-spec : {M : Type 1} → statement M
 put-table-spec =
