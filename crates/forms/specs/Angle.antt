@@ -11,6 +11,7 @@ use Rattle.digits.specs.Decimal.{digitsOf, printFixed}
 use Rattle.digits.specs.Same.{same}
 use Rattle.forms.specs.Got.{pick, gotIntOf, missingInt}
 use Rattle.forms.specs.Sign.{signed}
+use Rattle.forms.specs.Limits.{latitudeMost, longitudeMost, halfCircle}
 use Rattle.forms.specs.Number.{belowOf}
 use Rattle.forms.specs.declared.got.GotInt.{GotInt}
 use Rattle.forms.specs.declared.got.Position.{Position}
@@ -35,10 +36,10 @@ angleText w v = printFixed w (v / 600000) ++ (printFixed 2 (v / 10000 % 60) ++ (
 
 -- At most 90 degrees, and at most 180.
 unfoldable pub latitudeOf : List ℕ → Option ℕ
-latitudeOf f = angleOf 2 54000000 f
+latitudeOf f = angleOf 2 latitudeMost f
 
 unfoldable pub longitudeOf : List ℕ → Option ℕ
-longitudeOf f = angleOf 3 108000000 f
+longitudeOf f = angleOf 3 longitudeMost f
 
 -- The wrong one of two fields, of which the first is there or empty.
 abbrev pub wrongInt : ℕ → Bool → GotInt
@@ -76,4 +77,4 @@ unfoldable pub variationForm : List ℕ → List ℕ → GotInt
 variationForm f u =
     pick (eqb (length f) 0)
     (pick (eqb (length u) 0 || (same u (ascii "E") || same u (ascii "W"))) missingInt (wrongInt 2 false))
-    (letteredOf (ascii "E") (ascii "W") u (belowOf 180000 f))
+    (letteredOf (ascii "E") (ascii "W") u (belowOf halfCircle f))

@@ -5,3 +5,4 @@ pub mod Sign
 pub mod Number
 pub mod Angle
 pub mod Plain
+pub mod Limits

@@ -8,6 +8,7 @@ use lib.ListN.{length, getD}
 use Rattle.digits.specs.Decimal.{digitsOf}
 use Rattle.forms.specs.declared.got.Got.{Got}
 use Rattle.forms.specs.Got.{gotOf, maybeOf, withinOf}
+use Rattle.forms.specs.Limits.{rateLeast, rateMost, codeMost}
 
 -- lo to hi digits, of which the first of several is no zero.
 unfoldable pub plainOf : ℕ → ℕ → List ℕ → Option ℕ
@@ -15,7 +16,7 @@ plainOf lo hi f = cond (ltb 1 (length f) && eqb (getD f 0 0) 48) none (digitsOf 
 
 -- 1200 to 115200.
 unfoldable pub rateOf : List ℕ → Option ℕ
-rateOf f = withinOf 1200 115200 (plainOf 4 6 f)
+rateOf f = withinOf rateLeast rateMost (plainOf 4 6 f)
 
 -- A rate, which may be empty.
 unfoldable pub rateForm : List ℕ → Got
@@ -23,7 +24,7 @@ rateForm f = maybeOf f (rateOf f)
 
 -- 0 to 255.
 unfoldable pub codeOf : List ℕ → Option ℕ
-codeOf f = withinOf 0 255 (plainOf 1 3 f)
+codeOf f = withinOf 0 codeMost (plainOf 1 3 f)
 
 -- A code, which is never empty.
 unfoldable pub codeForm : List ℕ → Got

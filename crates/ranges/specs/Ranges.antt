@@ -6,6 +6,7 @@ use mathlib.Core.Bool.{Bool, true, false, cond, _&&_}
 use lib.Dec.{leb, eqb}
 use lib.IntN.{ℤ, natAbs}
 use Rattle.forms.specs.Letters.{isIn}
+use Rattle.forms.specs.Limits.{latitudeMost, longitudeMost}
 use Rattle.calendar.specs.Calendar.{isDate}
 use Rattle.masks.specs.Masks.{isPortMask}
 use Rattle.records.specs.declared.values.Date.{Date}
@@ -30,8 +31,8 @@ letterWrong set v = cond (isIn v set) 0 1
 -- A position at most 90 and 180 degrees; latitude stands in the first field, longitude in the third.
 unfoldable pub placeWrong : Place → ℕ
 placeWrong p =
-    cond (eqb (signedWrong 54000000 (p .there) (p .lat)) 0)
-    (cond (eqb (signedWrong 108000000 (p .there) (p .lon)) 0) 0 3)
+    cond (eqb (signedWrong latitudeMost (p .there) (p .lat)) 0)
+    (cond (eqb (signedWrong longitudeMost (p .there) (p .lon)) 0) 0 3)
     1
 
 -- A date in one field.

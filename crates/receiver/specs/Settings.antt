@@ -5,6 +5,7 @@ use mathlib.Core.Bool.{Bool, true, _&&_}
 use lib.Dec.{eqb}
 use lib.IntN.{pos}
 use lib.Count.{ones}
+use Rattle.forms.specs.Limits.{rateLeast, rateMost, protocolMost, datumMost, zoneMost, gpsMost, glonassMost, codeMost}
 use Rattle.ranges.specs.Ranges.{outside, portWrong, signedWrong}
 use Rattle.sealing.specs.Written.{pick}
 use Rattle.receiver.specs.declared.Counts.{Counts}
@@ -21,8 +22,8 @@ atStart =
       second = portAtStart;
       datum = 0;
       zone = pos 0;
-      gps = 4294967295;
-      glonass = 16777215;
+      gps = gpsMost;
+      glonass = glonassMost;
       code = 0;
     }
 
@@ -37,17 +38,17 @@ withPort s (suc n) p = record { first = s .first; second = p; datum = s .datum; 
 
 -- A setting in its range.
 unfoldable pub portGood : Port → Bool
-portGood p = eqb (outside 1200 115200 (p .rate)) 0 && (eqb (outside 0 4 (p .protocol)) 0 && eqb (portWrong true (p .mask)) 0)
+portGood p = eqb (outside rateLeast rateMost (p .rate)) 0 && (eqb (outside 0 protocolMost (p .protocol)) 0 && eqb (portWrong true (p .mask)) 0)
 
 unfoldable pub settingsGood : Settings → Bool
 settingsGood s =
     portGood (s .first)
     && (portGood (s .second)
-    && (eqb (outside 0 4 (s .datum)) 0
-    && (eqb (signedWrong 839 true (s .zone)) 0
-    && (eqb (outside 0 4294967295 (s .gps)) 0
-    && (eqb (outside 0 16777215 (s .glonass)) 0
-    && eqb (outside 0 255 (s .code)) 0)))))
+    && (eqb (outside 0 datumMost (s .datum)) 0
+    && (eqb (signedWrong zoneMost true (s .zone)) 0
+    && (eqb (outside 0 gpsMost (s .gps)) 0
+    && (eqb (outside 0 glonassMost (s .glonass)) 0
+    && eqb (outside 0 codeMost (s .code)) 0)))))
 
 -- The number of satellites allowed by each mask is its ones; a wrong setting is 5.
 unfoldable pub countsOf : Settings → Counts

@@ -5,6 +5,7 @@ use mathlib.Core.Bool.{cond}
 use lib.Dec.{eqb, ltb}
 use Rattle.digits.specs.Ascii.{ascii}
 use Rattle.digits.specs.Decimal.{findIn}
+use Rattle.forms.specs.Limits.{statuses, modes, selections}
 use Rattle.masks.specs.Masks.{printHex}
 use Rattle.phrases.specs.Phrases.{is}
 use Rattle.words.specs.Nth.{nth}
@@ -24,7 +25,7 @@ widthOf f = cond (is "x" f) 4 (cond (is "r" f) 6 (cond (is "g" f) 8 0))
 
 -- Status, mode, selection, quality and fix: their letters, and what each means, in the order of `smaqf`.
 abbrev pub letterSets : List ℕ
-letterSets = ascii "AV;ADEMSN;MA;012345678;0123"
+letterSets = ascii statuses ++ ascii ";" ++ ascii modes ++ ascii ";" ++ ascii selections ++ ascii ";012345678;0123"
 
 abbrev pub meaningSets : List ℕ
 meaningSets =

@@ -1,0 +1,1 @@
+// The forms of fields and the rows of sentences: definitions only.
