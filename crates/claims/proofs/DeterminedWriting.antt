@@ -27,7 +27,8 @@ use Rattle.records.specs.declared.Gsa.{Gsa}
 use Rattle.records.specs.Wrong.{nearOf}
 use Rattle.records.specs.declared.Gsv.{Gsv}
 use Rattle.writesat.specs.Gsa.{gsaBody, gsaWrong}
-use Rattle.writesat.specs.Gsv.{gsvBody, gsvFault, isBlank}
+use Rattle.writesat.specs.Gsv.{gsvBody, gsvFault}
+use Rattle.records.specs.Blank.{isBlank}
 use Rattle.writecom.specs.Pirer.{pirerBody}
 use Rattle.records.specs.declared.Gga.{Gga}
 use Rattle.writenav.specs.Gga.{ggaBody, ggaWrong}

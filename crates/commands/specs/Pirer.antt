@@ -1,21 +1,23 @@
 -- PIRER (1): `0` only.
 use Prim.Native.Nat.{ℕ}
-use mathlib.Core.List.{List, [], _∷_}
+use mathlib.Core.List.{List}
 use Rattle.forms.specs.declared.got.Got.{Got}
-use Rattle.kinds.specs.Kinds.{exactForm}
 use Rattle.records.specs.declared.Sentence.{Sentence}
-use Rattle.records.specs.declared.Sentence.the-variants.{Er}
-use Rattle.records.specs.Wrong.{after, firstWrong}
-use Rattle.records.specs.Answers.{answered, counted}
+use Rattle.records.specs.declared.Sentence.the-variants as S
+use Rattle.row.specs.Row.{Row, one}
+use Rattle.row.specs.Forms.{zeroDigit}
+use Rattle.row.specs.Kind.{answerBy, readBy}
 
-unfoldable pub pirerFrom : Got → Sentence
+abbrev pub Readings : Type 0
+Readings = Got
+
+unfoldable pub pirerRow : Row Readings (Unit {0})
+pirerRow = one zeroDigit
+
+-- What the contracts cite.
+abbrev pub pirerFrom : Got → Sentence
 pirerFrom zero =
-    answered
-    (firstWrong (after 0 (zero .wrong) ∷ []))
-    Er
+    answerBy S.Refused pirerRow (λ v. S.Er) zero
 
-unfoldable pub pirerOf : ℕ → (ℕ → List ℕ) → Sentence
-pirerOf n field =
-    counted n 1
-    (pirerFrom
-    (exactForm 1 0 0 (field 1)))
+abbrev pub pirerOf : ℕ → (ℕ → List ℕ) → Sentence
+pirerOf = readBy S.Refused pirerRow (λ v. S.Er)

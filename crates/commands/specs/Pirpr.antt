@@ -1,28 +1,42 @@
 -- PIRPR (4): port 0, 1 or empty; rate or empty; protocol 0-4; mask. Empty rate: a question; the last two are valid or empty in a line,
 -- missing in the record.
 use Prim.Native.Nat.{ℕ}
-use mathlib.Core.List.{List, [], _∷_}
+use mathlib.Core.Bool.{Bool}
+use mathlib.Core.List.{List}
 use Rattle.forms.specs.declared.got.Got.{Got}
-use Rattle.masks.specs.Masks.{portMaskForm}
-use Rattle.masks.specs.Rates.{rateForm}
-use Rattle.kinds.specs.Kinds.{fixedForm}
+use Rattle.records.specs.declared.values.Maybe.{Maybe}
+use Rattle.records.specs.declared.PortAsked.{PortAsked}
 use Rattle.records.specs.declared.Sentence.{Sentence}
-use Rattle.records.specs.declared.Sentence.the-variants.{Pr}
-use Rattle.records.specs.Keep.{keptIf, keptOf, neededWrong}
-use Rattle.records.specs.Wrong.{after, firstWrong}
-use Rattle.records.specs.Answers.{answered, counted}
+use Rattle.records.specs.declared.Sentence.the-variants as S
+use Rattle.forms.specs.Limits.{portMost, protocolMost}
+use Rattle.row.specs.Row.{Row, one, depending, _▷_, made}
+use Rattle.row.specs.Forms.{fixed, needed, portMask, rate}
+use Rattle.row.specs.Kind.{answerBy, readBy}
 
-unfoldable pub pirprFrom : Got → Got → Got → Got → Sentence
+abbrev pub Readings : Type 0
+Readings = Got × (Got × (Got × Got))
+
+abbrev pub Values : Type 0
+Values = Maybe × (Maybe × (Maybe × Maybe))
+
+-- Protocol and mask, which stand where the rate does.
+abbrev pub setting : Bool → Row (Got × Got) (Maybe × Maybe)
+setting key = one (needed (fixed 1 0 protocolMost) key) ▷ one (needed portMask key)
+
+abbrev pub pirprParts : Row Readings Values
+pirprParts = one (fixed 1 0 portMost) ▷ depending 2 7 (λ g. g .there) (λ m. m .there) (one rate) setting
+
+unfoldable pub pirprRow : Row Readings PortAsked
+pirprRow =
+    made
+    (λ v. record { port = v .0; rate = v .1 .0; protocol = v .1 .1 .0; mask = v .1 .1 .1 })
+    (λ r. (r .port, (r .rate, (r .protocol, r .mask))))
+    pirprParts
+
+-- What the contracts cite.
+abbrev pub pirprFrom : Got → Got → Got → Got → Sentence
 pirprFrom port rate protocol mask =
-    answered
-    (firstWrong (after 0 (port .wrong) ∷ after 1 (rate .wrong) ∷ after 2 (neededWrong (rate .there) protocol) ∷ after 3 (neededWrong (rate .there) mask) ∷ []))
-    (Pr (record { port = keptOf port; rate = keptOf rate; protocol = keptIf (rate .there) protocol; mask = keptIf (rate .there) mask }))
+    answerBy S.Refused pirprRow S.Pr (port, (rate, (protocol, mask)))
 
-unfoldable pub pirprOf : ℕ → (ℕ → List ℕ) → Sentence
-pirprOf n field =
-    counted n 4
-    (pirprFrom
-    (fixedForm 1 0 1 (field 1))
-    (rateForm (field 2))
-    (fixedForm 1 0 4 (field 3))
-    (portMaskForm (field 4)))
+abbrev pub pirprOf : ℕ → (ℕ → List ℕ) → Sentence
+pirprOf = readBy S.Refused pirprRow S.Pr

@@ -1,24 +1,35 @@
 -- PIRSA (3): 8 and 6 digits and an empty third field.
 use Prim.Native.Nat.{ℕ}
-use mathlib.Core.List.{List, [], _∷_}
+use mathlib.Core.List.{List}
 use Rattle.forms.specs.declared.got.Got.{Got}
-use Rattle.forms.specs.Letters.{emptyWrong}
-use Rattle.masks.specs.Masks.{wholeForm}
+use Rattle.records.specs.declared.MasksTold.{MasksTold}
 use Rattle.records.specs.declared.Sentence.{Sentence}
-use Rattle.records.specs.declared.Sentence.the-variants.{Sa}
-use Rattle.records.specs.Wrong.{after, firstWrong}
-use Rattle.records.specs.Answers.{answered, counted}
+use Rattle.records.specs.declared.Sentence.the-variants as S
+use Rattle.forms.specs.Limits.{gpsMost, glonassMost}
+use Rattle.row.specs.Row.{Row, one, _▷_, made}
+use Rattle.row.specs.Forms.{emptyField, wholeMask}
+use Rattle.row.specs.Kind.{answerBy, readBy}
 
-unfoldable pub pirsaFrom : Got → Got → ℕ → Sentence
+abbrev pub Readings : Type 0
+Readings = Got × (Got × ℕ)
+
+abbrev pub Values : Type 0
+Values = ℕ × (ℕ × Unit {0})
+
+abbrev pub pirsaParts : Row Readings Values
+pirsaParts = one (wholeMask 8 gpsMost) ▷ one (wholeMask 6 glonassMost) ▷ one emptyField
+
+unfoldable pub pirsaRow : Row Readings MasksTold
+pirsaRow =
+    made
+    (λ v. record { gps = v .0; glonass = v .1 .0 })
+    (λ r. (r .gps, (r .glonass, tt)))
+    pirsaParts
+
+-- What the contracts cite.
+abbrev pub pirsaFrom : Got → Got → ℕ → Sentence
 pirsaFrom gps glonass third =
-    answered
-    (firstWrong (after 0 (gps .wrong) ∷ after 1 (glonass .wrong) ∷ after 2 third ∷ []))
-    (Sa (record { gps = gps .value; glonass = glonass .value }))
+    answerBy S.Refused pirsaRow S.Sa (gps, (glonass, third))
 
-unfoldable pub pirsaOf : ℕ → (ℕ → List ℕ) → Sentence
-pirsaOf n field =
-    counted n 3
-    (pirsaFrom
-    (wholeForm 8 (field 1))
-    (wholeForm 6 (field 2))
-    (emptyWrong (field 3)))
+abbrev pub pirsaOf : ℕ → (ℕ → List ℕ) → Sentence
+pirsaOf = readBy S.Refused pirsaRow S.Sa

@@ -1,25 +1,37 @@
 -- PIRTA (2): the request's fields, all filled.
 use Prim.Native.Nat.{ℕ}
-use mathlib.Core.List.{List, [], _∷_}
-use mathlib.Core.Bool.{true}
+use mathlib.Core.List.{List}
+use lib.IntN.{ℤ}
 use Rattle.forms.specs.declared.got.Got.{Got}
 use Rattle.forms.specs.declared.got.GotInt.{GotInt}
-use Rattle.kinds.specs.Kinds.{exactForm, zoneFourForm}
+use Rattle.records.specs.declared.DatumTold.{DatumTold}
 use Rattle.records.specs.declared.Sentence.{Sentence}
-use Rattle.records.specs.declared.Sentence.the-variants.{Ta}
-use Rattle.records.specs.Keep.{neededInt}
-use Rattle.records.specs.Wrong.{after, firstWrong}
-use Rattle.records.specs.Answers.{answered, counted}
+use Rattle.records.specs.declared.Sentence.the-variants as S
+use Rattle.forms.specs.Limits.{datumMost}
+use Rattle.row.specs.Row.{Row, one, _▷_, made}
+use Rattle.row.specs.Forms.{exact, filledZone}
+use Rattle.row.specs.Kind.{answerBy, readBy}
 
-unfoldable pub pirtaFrom : Got → GotInt → Sentence
+abbrev pub Readings : Type 0
+Readings = Got × GotInt
+
+abbrev pub Values : Type 0
+Values = ℕ × ℤ
+
+abbrev pub pirtaParts : Row Readings Values
+pirtaParts = one (exact 1 0 datumMost) ▷ one filledZone
+
+unfoldable pub pirtaRow : Row Readings DatumTold
+pirtaRow =
+    made
+    (λ v. record { datum = v .0; zone = v .1 })
+    (λ r. (r .datum, r .zone))
+    pirtaParts
+
+-- What the contracts cite.
+abbrev pub pirtaFrom : Got → GotInt → Sentence
 pirtaFrom datum zone =
-    answered
-    (firstWrong (after 0 (datum .wrong) ∷ after 1 (neededInt true zone) ∷ []))
-    (Ta (record { datum = datum .value; zone = zone .value }))
+    answerBy S.Refused pirtaRow S.Ta (datum, zone)
 
-unfoldable pub pirtaOf : ℕ → (ℕ → List ℕ) → Sentence
-pirtaOf n field =
-    counted n 2
-    (pirtaFrom
-    (exactForm 1 0 4 (field 1))
-    (zoneFourForm (field 2)))
+abbrev pub pirtaOf : ℕ → (ℕ → List ℕ) → Sentence
+pirtaOf = readBy S.Refused pirtaRow S.Ta

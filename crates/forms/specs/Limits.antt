@@ -30,6 +30,13 @@ zoneMost = 839
 abbrev pub stationMost : ℕ
 stationMost = 1023
 
+-- The numbers of satellites, from 01 to 99.
+abbrev pub satelliteLeast : ℕ
+satelliteLeast = 1
+
+abbrev pub satelliteMost : ℕ
+satelliteMost = 99
+
 -- Of the commands: the last port, protocol and datum; rates; the masks with all satellites; self-test codes.
 abbrev pub portMost : ℕ
 portMost = 1

@@ -1,39 +1,44 @@
 -- GGA (14): time, position (4), quality one digit 0-8 never empty, satellites 2 digits or empty, HDOP, altitude, M, geoid, M, age, station
 -- 0000-1023 or empty.
 use Prim.Native.Nat.{ℕ}
-use mathlib.Core.List.{List, [], _∷_}
+use mathlib.Core.List.{List}
 use Rattle.address.specs.declared.Talker.{Talker}
-use Rattle.forms.specs.declared.got.Position.{Position}
 use Rattle.forms.specs.declared.got.Got.{Got}
 use Rattle.forms.specs.declared.got.GotInt.{GotInt}
-use Rattle.forms.specs.Angle.{positionForm}
-use Rattle.forms.specs.Letters.{unitWrong}
-use Rattle.kinds.specs.Kinds.{exactForm, fixedForm, heightForm, numberForm, timeForm}
+use Rattle.forms.specs.declared.got.Position.{Position}
+use Rattle.records.specs.declared.values.Maybe.{Maybe}
+use Rattle.records.specs.declared.values.Number.{Number}
+use Rattle.records.specs.declared.values.Place.{Place}
+use Rattle.records.specs.declared.values.Signed.{Signed}
+use Rattle.records.specs.declared.Gga.{Gga}
 use Rattle.records.specs.declared.Sentence.{Sentence}
-use Rattle.records.specs.declared.Sentence.the-variants.{Gga}
-use Rattle.records.specs.Keep.{keptOf, numberOf, placedOf, signedOf}
-use Rattle.records.specs.Wrong.{after, firstWrong}
-use Rattle.records.specs.Answers.{answered, counted}
-use Rattle.navigation.specs.Units.{unit}
+use Rattle.records.specs.declared.Sentence.the-variants as S
+use Rattle.row.specs.Row.{Row, one, _▷_, made}
+use Rattle.row.specs.Forms.{exact, fixed, metres, number, place, station, time}
+use Rattle.row.specs.Kind.{answerBy, readBy}
 
-unfoldable pub ggaFrom : Talker → Got → Position → Got → Got → Got → GotInt → ℕ → GotInt → ℕ → Got → Got → Sentence
+abbrev pub Readings : Type 0
+Readings = Got × (Position × (Got × (Got × (Got × ((GotInt × ℕ) × ((GotInt × ℕ) × (Got × Got)))))))
+
+abbrev pub Values : Type 0
+Values = Maybe × (Place × (ℕ × (Maybe × (Number × (Signed × (Signed × (Number × Maybe)))))))
+
+abbrev pub ggaParts : Row Readings Values
+ggaParts = one time ▷ one place ▷ one (exact 1 0 8) ▷ one (fixed 2 0 99) ▷ one number ▷ metres ▷ metres ▷ one number ▷ one station
+
+unfoldable pub ggaRow : Row Readings Gga
+ggaRow =
+    made
+    (λ v. record { time = v .0; place = v .1 .0; quality = v .1 .1 .0; satellites = v .1 .1 .1 .0; hdop = v .1 .1 .1 .1 .0;
+        altitude = v .1 .1 .1 .1 .1 .0; geoid = v .1 .1 .1 .1 .1 .1 .0; age = v .1 .1 .1 .1 .1 .1 .1 .0;
+        station = v .1 .1 .1 .1 .1 .1 .1 .1 })
+    (λ r. (r .time, (r .place, (r .quality, (r .satellites, (r .hdop, (r .altitude, (r .geoid, (r .age, r .station)))))))))
+    ggaParts
+
+-- What the contracts cite.
+abbrev pub ggaFrom : Talker → Got → Position → Got → Got → Got → GotInt → ℕ → GotInt → ℕ → Got → Got → Sentence
 ggaFrom t time place quality satellites hdop altitude m10 geoid m12 age station =
-    answered
-    (firstWrong (after 0 (time .wrong) ∷ after 1 (place .wrong) ∷ after 5 (quality .wrong) ∷ after 6 (satellites .wrong) ∷ after 7 (hdop .wrong) ∷ after 8 (altitude .wrong) ∷ after 9 m10 ∷ after 10 (geoid .wrong) ∷ after 11 m12 ∷ after 12 (age .wrong) ∷ after 13 (station .wrong) ∷ []))
-    (Gga t (record { time = keptOf time; place = placedOf place; quality = quality .value; satellites = keptOf satellites; hdop = numberOf hdop; altitude = signedOf altitude; geoid = signedOf geoid; age = numberOf age; station = keptOf station }))
+    answerBy S.Refused ggaRow (S.Gga t) (time, (place, (quality, (satellites, (hdop, ((altitude, m10), ((geoid, m12), (age, station))))))))
 
-unfoldable pub ggaOf : Talker → ℕ → (ℕ → List ℕ) → Sentence
-ggaOf t n field =
-    counted n 14
-    (ggaFrom t
-    (timeForm (field 1))
-    (positionForm (field 2) (field 3) (field 4) (field 5))
-    (exactForm 1 0 8 (field 6))
-    (fixedForm 2 0 99 (field 7))
-    (numberForm (field 8))
-    (heightForm (field 9))
-    (unitWrong (field 10) (heightForm (field 9) .there) (unit "M"))
-    (heightForm (field 11))
-    (unitWrong (field 12) (heightForm (field 11) .there) (unit "M"))
-    (numberForm (field 13))
-    (fixedForm 4 0 1023 (field 14)))
+abbrev pub ggaOf : Talker → ℕ → (ℕ → List ℕ) → Sentence
+ggaOf t = readBy S.Refused ggaRow (S.Gga t)

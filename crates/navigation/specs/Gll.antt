@@ -1,29 +1,38 @@
 -- GLL (7): position (4), time, status, mode.
 use Prim.Native.Nat.{ℕ}
-use mathlib.Core.List.{List, [], _∷_}
-use Rattle.digits.specs.Ascii.{ascii}
+use mathlib.Core.List.{List}
 use Rattle.address.specs.declared.Talker.{Talker}
-use Rattle.forms.specs.declared.got.Position.{Position}
 use Rattle.forms.specs.declared.got.Got.{Got}
-use Rattle.forms.specs.Angle.{positionForm}
-use Rattle.kinds.specs.Kinds.{letterForm, timeForm}
+use Rattle.forms.specs.declared.got.Position.{Position}
+use Rattle.records.specs.declared.values.Maybe.{Maybe}
+use Rattle.records.specs.declared.values.Place.{Place}
+use Rattle.records.specs.declared.Gll.{Gll}
 use Rattle.records.specs.declared.Sentence.{Sentence}
-use Rattle.records.specs.declared.Sentence.the-variants.{Gll}
-use Rattle.records.specs.Keep.{keptOf, placedOf}
-use Rattle.records.specs.Wrong.{after, firstWrong}
-use Rattle.records.specs.Answers.{answered, counted}
+use Rattle.records.specs.declared.Sentence.the-variants as S
+use Rattle.row.specs.Row.{Row, one, _▷_, made}
+use Rattle.row.specs.Forms.{mode, place, status, time}
+use Rattle.row.specs.Kind.{answerBy, readBy}
 
-unfoldable pub gllFrom : Talker → Position → Got → Got → Got → Sentence
+abbrev pub Readings : Type 0
+Readings = Position × (Got × (Got × Got))
+
+abbrev pub Values : Type 0
+Values = Place × (Maybe × (ℕ × ℕ))
+
+abbrev pub gllParts : Row Readings Values
+gllParts = one place ▷ one time ▷ one status ▷ one mode
+
+unfoldable pub gllRow : Row Readings Gll
+gllRow =
+    made
+    (λ v. record { place = v .0; time = v .1 .0; status = v .1 .1 .0; mode = v .1 .1 .1 })
+    (λ r. (r .place, (r .time, (r .status, r .mode))))
+    gllParts
+
+-- What the contracts cite.
+abbrev pub gllFrom : Talker → Position → Got → Got → Got → Sentence
 gllFrom t place time status mode =
-    answered
-    (firstWrong (after 0 (place .wrong) ∷ after 4 (time .wrong) ∷ after 5 (status .wrong) ∷ after 6 (mode .wrong) ∷ []))
-    (Gll t (record { place = placedOf place; time = keptOf time; status = status .value; mode = mode .value }))
+    answerBy S.Refused gllRow (S.Gll t) (place, (time, (status, mode)))
 
-unfoldable pub gllOf : Talker → ℕ → (ℕ → List ℕ) → Sentence
-gllOf t n field =
-    counted n 7
-    (gllFrom t
-    (positionForm (field 1) (field 2) (field 3) (field 4))
-    (timeForm (field 5))
-    (letterForm (ascii "AV") (field 6))
-    (letterForm (ascii "ADEMSN") (field 7)))
+abbrev pub gllOf : Talker → ℕ → (ℕ → List ℕ) → Sentence
+gllOf t = readBy S.Refused gllRow (S.Gll t)

@@ -4,6 +4,8 @@ use Prim.Native.Nat.{ℕ, _-_, _≤_, _<_}
 use mathlib.Core.Path.{_≡_, refl, sym, _∙_, ap}
 use mathlib.Core.List.{List}
 use native.Mathlib.Omega.{arith}
+use mathlib.Core.Bool.{false}
+use lib.Dec.{eqb, lit≤}
 use lib.ListN.{length, replicate}
 use lib.Seq.{sets}
 use borrow.Author.Tests.{ne-eqb}
@@ -21,23 +23,25 @@ use Rattle.fields.proofs.Splitting.{first-field}
 use Rattle.fields.proofs.AllFields.{all-fields}
 use Rattle.records.specs.declared.Reading.{Reading}
 use Rattle.records.specs.declared.Sentence.the-variants.{Refused}
-use Rattle.records.specs.Answers.{counted}
+use Rattle.records.specs.declared.Sentence.the-variants as S
 use Rattle.records.specs.Blank.{aloneOf}
-use Rattle.navigation.specs.Gga.{ggaOf}
-use Rattle.navigation.specs.Gll.{gllOf}
-use Rattle.navigation.specs.Rmc.{rmcOf}
-use Rattle.navigation.specs.Vtg.{vtgOf}
-use Rattle.navigation.specs.Zda.{zdaOf}
-use Rattle.satellites.specs.Active.{gsaOf}
+use Rattle.navigation.specs.Gga.{ggaRow}
+use Rattle.navigation.specs.Gll.{gllRow}
+use Rattle.navigation.specs.Rmc.{rmcRow}
+use Rattle.navigation.specs.Vtg.{vtgRow}
+use Rattle.navigation.specs.Zda.{zdaRow}
+use Rattle.satellites.specs.Active.{gsaBeside, gsaMade, gsaRow, refused}
 use Rattle.satellites.specs.View.{entriesOf, gsvWith, gsvOf}
-use Rattle.commands.specs.Pirpr.{pirprOf}
-use Rattle.commands.specs.Pirtr.{pirtrOf}
-use Rattle.commands.specs.Pirsr.{pirsrOf}
-use Rattle.commands.specs.Pirer.{pirerOf}
-use Rattle.commands.specs.Pirpa.{pirpaOf}
-use Rattle.commands.specs.Pirta.{pirtaOf}
-use Rattle.commands.specs.Pirsa.{pirsaOf}
-use Rattle.commands.specs.Pirea.{pireaOf}
+use Rattle.commands.specs.Pirpr.{pirprRow}
+use Rattle.commands.specs.Pirtr.{pirtrRow}
+use Rattle.commands.specs.Pirsr.{pirsrRow}
+use Rattle.commands.specs.Pirer.{pirerRow}
+use Rattle.commands.specs.Pirpa.{pirpaRow}
+use Rattle.commands.specs.Pirta.{pirtaRow}
+use Rattle.commands.specs.Pirsa.{pirsaRow}
+use Rattle.commands.specs.Pirea.{pireaRow}
+use Rattle.row.specs.Row.{Row}
+use Rattle.row.specs.Kind.{readBy}
 use Rattle.reading.specs.Lines.{standardOf, makerOf, addressed, readBody}
 
 -- Every body has a field, its address.
@@ -48,27 +52,33 @@ abbrev miscounted : Reading
 miscounted = aloneOf (Refused 4 0)
 
 module _ (n : ℕ) (field : ℕ → List ℕ) (h : 19 < n) where
+  too-many : {A G R : Type 0} (refuse : ℕ → ℕ → A) (row : Row G R) (make : R → A) → row .width ≤ 19 → readBy refuse row make n field ≡ refuse
+      4 0
+  unfolding readBy
+  too-many refuse row make w = rw (ne-eqb n (row .width) (λ e. omega (arith, w, h, e)))
+
   many-standard : (t : Talker) (k : Kind) → standardOf t k n field ≡ miscounted
-  unfolding ggaOf gllOf rmcOf vtgOf zdaOf gsaOf gsvOf gsvWith entriesOf counted
-  many-standard t K.Gga = rw (ne-eqb n 14 (λ e. omega arith))
-  many-standard t K.Gll = rw (ne-eqb n 7 (λ e. omega arith))
-  many-standard t K.Gsa = rw (ne-eqb n 17 (λ e. omega arith))
+  unfolding ggaRow gllRow rmcRow vtgRow zdaRow gsaRow gsvOf gsvWith entriesOf
+  many-standard t K.Gga = ap aloneOf (too-many Refused ggaRow (S.Gga t) (lit≤ tt))
+  many-standard t K.Gll = ap aloneOf (too-many Refused gllRow (S.Gll t) (lit≤ tt))
+  many-standard t K.Gsa = too-many refused gsaRow (λ v. gsaBeside t (gsaMade v)) (lit≤ tt)
   many-standard t K.Gsv =
-      rw (ne-eqb n 3 (λ e. omega arith), ne-eqb n 7 (λ e. omega arith), ne-eqb n 11 (λ e. omega arith), ne-eqb n 15 (λ e. omega arith), ne-eqb n 19 (λ e. omega arith))
-  many-standard t K.Rmc = rw (ne-eqb n 12 (λ e. omega arith))
-  many-standard t K.Vtg = rw (ne-eqb n 9 (λ e. omega arith))
-  many-standard t K.Zda = rw (ne-eqb n 6 (λ e. omega arith))
+      let not-in : (m : ℕ) → m ≤ 19 → eqb n m ≡ false = λ m w. ne-eqb n m (λ e. omega (arith, w, h, e)) in
+      rw (not-in 3 (lit≤ tt), not-in 7 (lit≤ tt), not-in 11 (lit≤ tt), not-in 15 (lit≤ tt), not-in 19 (lit≤ tt))
+  many-standard t K.Rmc = ap aloneOf (too-many Refused rmcRow (S.Rmc t) (lit≤ tt))
+  many-standard t K.Vtg = ap aloneOf (too-many Refused vtgRow (S.Vtg t) (lit≤ tt))
+  many-standard t K.Zda = ap aloneOf (too-many Refused zdaRow (S.Zda t) (lit≤ tt))
 
   many-maker : (k : Pir) → makerOf k n field ≡ miscounted
-  unfolding pirprOf pirtrOf pirsrOf pirerOf pirpaOf pirtaOf pirsaOf pireaOf counted
-  many-maker P.Pr = rw (ne-eqb n 4 (λ e. omega arith))
-  many-maker P.Tr = rw (ne-eqb n 2 (λ e. omega arith))
-  many-maker P.Sr = rw (ne-eqb n 3 (λ e. omega arith))
-  many-maker P.Er = rw (ne-eqb n 1 (λ e. omega arith))
-  many-maker P.Pa = rw (ne-eqb n 4 (λ e. omega arith))
-  many-maker P.Ta = rw (ne-eqb n 2 (λ e. omega arith))
-  many-maker P.Sa = rw (ne-eqb n 3 (λ e. omega arith))
-  many-maker P.Ea = rw (ne-eqb n 1 (λ e. omega arith))
+  unfolding pirprRow pirtrRow pirsrRow pirerRow pirpaRow pirtaRow pirsaRow pireaRow
+  many-maker P.Pr = ap aloneOf (too-many Refused pirprRow S.Pr (lit≤ tt))
+  many-maker P.Tr = ap aloneOf (too-many Refused pirtrRow S.Tr (lit≤ tt))
+  many-maker P.Sr = ap aloneOf (too-many Refused pirsrRow S.Sr (lit≤ tt))
+  many-maker P.Er = ap aloneOf (too-many Refused pirerRow (λ v. S.Er) (lit≤ tt))
+  many-maker P.Pa = ap aloneOf (too-many Refused pirpaRow S.Pa (lit≤ tt))
+  many-maker P.Ta = ap aloneOf (too-many Refused pirtaRow S.Ta (lit≤ tt))
+  many-maker P.Sa = ap aloneOf (too-many Refused pirsaRow S.Sa (lit≤ tt))
+  many-maker P.Ea = ap aloneOf (too-many Refused pireaRow S.Ea (lit≤ tt))
 
 -- b is a body whose places were found, a its address
 module _ (b : List ℕ) (count : ℕ) (ends : List ℕ) (q : Placed b (replicate 20 0) count ends) (a : Address) (i : a ≡ addressOf b) where

@@ -18,7 +18,8 @@ use Rattle.ranges.specs.Ranges.{outside}
 use Rattle.reading.specs.Lines.{readLine}
 use Rattle.trips.proofs.Known.{Zero, all-zero}
 use Rattle.trips.proofs.Values.{inside}
-use Rattle.writesat.specs.Gsv.{entryAfters, entryOf, gsvWrong, isBlank, restBlank, used}
+use Rattle.writesat.specs.Gsv.{entryAfters, entryOf, gsvWrong, restBlank, used}
+use Rattle.records.specs.Blank.{isBlank}
 use Rattle.tripssat.proofs.Gsv.{Good, blank-is}
 use Rattle.tripssat.proofs.Lists.{all-four}
 use Rattle.tripssat.proofs.GsvSame.{gsv-good}

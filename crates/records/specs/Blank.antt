@@ -1,5 +1,6 @@
 -- Blank records: all values missing and zero.
-use mathlib.Core.Bool.{false}
+use mathlib.Core.Bool.{Bool, false, not, _&&_}
+use lib.Dec.{eqb}
 use Rattle.records.specs.declared.Entry.{Entry}
 use Rattle.records.specs.declared.Gsa.{Gsa}
 use Rattle.records.specs.declared.Gsv.{Gsv}
@@ -23,6 +24,13 @@ blankGsa = record { selection = 0; fix = 0; satellites = replicate 12 noMaybe; p
 
 abbrev pub blankGsv : Gsv
 blankGsv = record { lines = 0; line = 0; satellites = 0; count = 0; entries = replicate 4 blankEntry }
+
+-- Blank is number 0 and three values missing and zero.
+abbrev pub isMissing : Maybe → Bool
+isMissing m = not (m .there) && eqb (m .value) 0
+
+unfoldable pub isBlank : Entry → Bool
+isBlank e = eqb (e .number) 0 && (isMissing (e .elevation) && (isMissing (e .azimuth) && isMissing (e .signal)))
 
 -- A sentence that has no record beside it.
 abbrev pub aloneOf : Sentence → Reading

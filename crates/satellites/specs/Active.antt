@@ -2,57 +2,106 @@
 use Prim.Native.Nat.{ℕ}
 use mathlib.Core.List.{List, [], _∷_}
 use lib.Dec.{eqb}
-use Rattle.digits.specs.Ascii.{ascii}
+use lib.ListN.{getD}
 use Rattle.address.specs.declared.Talker.{Talker}
 use Rattle.forms.specs.declared.got.Got.{Got}
 use Rattle.forms.specs.Got.{pick}
-use Rattle.kinds.specs.Kinds.{exactForm, fixedForm, letterForm, numberForm}
+use Rattle.forms.specs.Limits.{satelliteLeast, satelliteMost, selections}
+use Rattle.records.specs.declared.Gsa.{Gsa}
 use Rattle.records.specs.declared.Reading.{Reading}
-use Rattle.records.specs.declared.Sentence.the-variants.{Gsa, Refused}
-use Rattle.records.specs.Answers.{answeredBeside}
-use Rattle.records.specs.Blank.{aloneOf, blankGsv}
-use Rattle.records.specs.Keep.{keptOf, numberOf}
+use Rattle.records.specs.declared.Sentence.the-variants as S
+use Rattle.records.specs.declared.values.Maybe.{Maybe}
+use Rattle.records.specs.declared.values.Number.{Number}
+use Rattle.records.specs.Blank.{aloneOf, blankGsv, noMaybe}
+use Rattle.records.specs.Keep.{numberOf}
 use Rattle.records.specs.Wrong.{nearOf}
+use Rattle.row.specs.Row.{Form, Row, one, _▷_}
+use Rattle.row.specs.Forms.{exact, fixed, letter, number}
+use Rattle.row.specs.Kind.{readBy}
 use Rattle.satellites.specs.declared.gsa.Twelve.{Twelve}
 
--- The satellites of fields 3 to 14, and the first wrong field from theirs on; rest is the first after them.
-unfoldable pub twelveFrom : Got → Got → Got → Got → Got → Got → Got → Got → Got → Got → Got → Got → ℕ → Twelve
-twelveFrom a1 a2 a3 a4 a5 a6 a7 a8 a9 a10 a11 a12 rest =
+-- A satellite, or none.
+abbrev pub satellite : Form Got Maybe
+satellite = fixed 2 satelliteLeast satelliteMost
+
+-- Four of them, and twelve.
+abbrev pub Four : Type 0 → Type 0
+Four A = A × (A × (A × A))
+
+abbrev pub fourRow : Row (Four Got) (Four Maybe)
+fourRow = one satellite ▷ one satellite ▷ one satellite ▷ one satellite
+
+abbrev pub Twelves : Type 0 → Type 0
+Twelves A = Four A × (Four A × Four A)
+
+abbrev pub twelveRow : Row (Twelves Got) (Twelves Maybe)
+twelveRow = fourRow ▷ fourRow ▷ fourRow
+
+abbrev pub Readings : Type 0
+Readings = Got × (Got × (Twelves Got × (Got × (Got × Got))))
+
+abbrev pub Values : Type 0
+Values = ℕ × (ℕ × (Twelves Maybe × (Number × (Number × Number))))
+
+unfoldable pub gsaRow : Row Readings Values
+gsaRow = one (letter selections) ▷ one (exact 1 1 3) ▷ twelveRow ▷ one number ▷ one number ▷ one number
+
+-- An array of twelve is the list of its places.
+abbrev pub fourThen : Four Maybe → List Maybe → List Maybe
+fourThen v rest = v .0 ∷ v .1 .0 ∷ v .1 .1 .0 ∷ v .1 .1 .1 ∷ rest
+
+abbrev pub listed : Twelves Maybe → List Maybe
+listed v = fourThen (v .0) (fourThen (v .1 .0) (fourThen (v .1 .1) []))
+
+abbrev pub satelliteIn : List Maybe → ℕ → Maybe
+satelliteIn l k = getD l k noMaybe
+
+abbrev pub twelveIn : List Maybe → Twelves Maybe
+twelveIn l =
+    ((satelliteIn l 0, (satelliteIn l 1, (satelliteIn l 2, satelliteIn l 3))),
+    ((satelliteIn l 4, (satelliteIn l 5, (satelliteIn l 6, satelliteIn l 7))),
+    (satelliteIn l 8, (satelliteIn l 9, (satelliteIn l 10, satelliteIn l 11)))))
+
+-- The record of the values, and back.
+abbrev pub gsaMade : Values → Gsa
+gsaMade v =
     record {
-      wrong = nearOf 2 (a1 .wrong) (nearOf 3 (a2 .wrong) (nearOf 4 (a3 .wrong) (nearOf 5 (a4 .wrong) (nearOf 6 (a5 .wrong) (nearOf 7 (a6 .wrong) (nearOf 8 (a7 .wrong) (nearOf 9 (a8 .wrong) (nearOf 10 (a9 .wrong) (nearOf 11 (a10 .wrong) (nearOf 12 (a11 .wrong) (nearOf 13 (a12 .wrong) rest)))))))))));
-      satellites = keptOf a1 ∷ keptOf a2 ∷ keptOf a3 ∷ keptOf a4 ∷ keptOf a5 ∷ keptOf a6 ∷ keptOf a7 ∷ keptOf a8 ∷ keptOf a9 ∷ keptOf a10 ∷ keptOf a11 ∷ keptOf a12 ∷ [];
+      selection = v .0;
+      fix = v .1 .0;
+      satellites = listed (v .1 .1 .0);
+      pdop = v .1 .1 .1 .0;
+      hdop = v .1 .1 .1 .1 .0;
+      vdop = v .1 .1 .1 .1 .1;
     }
 
--- Each is 2 digits 01-99 or empty.
-unfoldable pub twelveOf : (ℕ → List ℕ) → ℕ → Twelve
-twelveOf field rest =
-    twelveFrom (fixedForm 2 1 99 (field 3)) (fixedForm 2 1 99 (field 4)) (fixedForm 2 1 99 (field 5)) (fixedForm 2 1 99 (field 6)) (fixedForm 2 1 99 (field 7)) (fixedForm 2 1 99 (field 8)) (fixedForm 2 1 99 (field 9)) (fixedForm 2 1 99 (field 10)) (fixedForm 2 1 99 (field 11)) (fixedForm 2 1 99 (field 12)) (fixedForm 2 1 99 (field 13)) (fixedForm 2 1 99 (field 14)) rest
+abbrev pub gsaValues : Gsa → Values
+gsaValues r = (r .selection, (r .fix, (twelveIn (r .satellites), (r .pdop, (r .hdop, r .vdop)))))
 
+-- A GSA answers a reading, with its record beside the sentence.
+abbrev pub refused : ℕ → ℕ → Reading
+refused number at = aloneOf (S.Refused number at)
+
+abbrev pub gsaBeside : Talker → Gsa → Reading
+gsaBeside t r = record { sentence = S.Gsa t; gsa = r; gsv = blankGsv }
+
+abbrev pub gsaOf : Talker → ℕ → (ℕ → List ℕ) → Reading
+gsaOf t = readBy refused gsaRow (λ v. gsaBeside t (gsaMade v))
+
+-- The satellites, and the first wrong field from theirs on; rest is the first after them.
+unfoldable pub twelveOf : Twelves Got → ℕ → Twelve
+twelveOf g rest = record { wrong = twelveRow .wrong g 2 rest; satellites = listed (twelveRow .value g) }
+
+-- What the last fields, and those before them, come to.
 unfoldable pub gsaFrom : Talker → Got → Got → Twelve → Got → Got → Got → Reading
 gsaFrom t selection fix active pdop hdop vdop =
-    answeredBeside
-    (nearOf 0 (selection .wrong) (nearOf 1 (fix .wrong) (active .wrong)))
+    pick (eqb (nearOf 0 (selection .wrong) (nearOf 1 (fix .wrong) (active .wrong))) 0)
+    (gsaBeside t
     (record {
-      sentence = Gsa t;
-      gsa = record {
-        selection = selection .value;
-        fix = fix .value;
-        satellites = active .satellites;
-        pdop = numberOf pdop;
-        hdop = numberOf hdop;
-        vdop = numberOf vdop;
-      };
-      gsv = blankGsv;
-    })
-
-unfoldable pub gsaOf : Talker → ℕ → (ℕ → List ℕ) → Reading
-gsaOf t n field =
-    pick (eqb n 17)
-    (gsaFrom t
-    (letterForm (ascii "MA") (field 1))
-    (exactForm 1 1 3 (field 2))
-    (twelveOf field (nearOf 14 (numberForm (field 15) .wrong) (nearOf 15 (numberForm (field 16) .wrong) (nearOf 16 (numberForm (field 17) .wrong) 0))))
-    (numberForm (field 15))
-    (numberForm (field 16))
-    (numberForm (field 17)))
-    (aloneOf (Refused 4 0))
+      selection = selection .value;
+      fix = fix .value;
+      satellites = active .satellites;
+      pdop = numberOf pdop;
+      hdop = numberOf hdop;
+      vdop = numberOf vdop;
+    }))
+    (refused 5 (nearOf 0 (selection .wrong) (nearOf 1 (fix .wrong) (active .wrong))))

@@ -9,7 +9,7 @@ use records::keep;
 use records::values::Maybe;
 ghost use mathlib.Core.Path.{_≡_};
 ghost use Rattle.fields.specs.Places.{fieldsBy};
-ghost use Rattle.satellites.specs.Active.{twelveFrom, twelveOf, gsaFrom, gsaOf};
+ghost use Rattle.satellites.specs.Active.{twelveRow, twelveOf, gsaFrom, gsaOf};
 
 // The twelve satellites, and the first wrong field from theirs on.
 struct Twelve {
@@ -33,7 +33,7 @@ fn twelve_from(
     a12: Got,
     rest: usize,
 ) -> Twelve
-    ensures { λ r. ⌜ r ≡ twelveFrom a1 a2 a3 a4 a5 a6 a7 a8 a9 a10 a11 a12 rest ⌝ }
+    ensures { λ r. ⌜ r ≡ twelveOf ((a1, (a2, (a3, a4))), ((a5, (a6, (a7, a8))), (a9, (a10, (a11, a12))))) rest ⌝ }
 {
     let w14 = keep::near(13, a12.wrong, rest);
     let w13 = keep::near(12, a11.wrong, w14);
@@ -67,7 +67,7 @@ fn twelve_from(
 }
 
 fn active_in(s: &[u8], p: &[usize], rest: usize) -> Twelve
-    ensures { λ r. ⌜ r ≡ twelveOf (fieldsBy (now (p .entry)) (now (s .entry))) rest ⌝ }
+    ensures { λ r. ⌜ r ≡ twelveOf (twelveRow .got (fieldsBy (now (p .entry)) (now (s .entry))) 2) rest ⌝ }
 {
     let a1 = kinds::fixed_in(s, p, 3, 2, 1, 99);
     let a2 = kinds::fixed_in(s, p, 4, 2, 1, 99);

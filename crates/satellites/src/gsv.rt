@@ -120,7 +120,7 @@ fn gsv_from(
     e3: GotEntry,
     e4: GotEntry,
 ) -> Reading
-    ensures { λ r. ⌜ r ≡ gsvFrom t count lines line satellites e1 e2 e3 e4 ⌝ }
+    ensures { λ r. ⌜ r ≡ gsvFrom t count (lines, (line, (satellites, (e1, (e2, (e3, e4)))))) ⌝ }
 {
     let w16 = keep::near(15, e4.wrong, 0);
     let w12 = keep::near(11, e3.wrong, w16);

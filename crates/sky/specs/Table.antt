@@ -15,7 +15,8 @@ use Rattle.records.specs.declared.Gsv.{Gsv}
 use Rattle.records.specs.Wrong.{firstWrong}
 use Rattle.sealing.specs.declared.Written.{Written}
 use Rattle.sealing.specs.Written.{pick, refused, wrote}
-use Rattle.writesat.specs.Gsv.{entryAfters, isBlank, gsvBody}
+use Rattle.writesat.specs.Gsv.{entryAfters, gsvBody}
+use Rattle.records.specs.Blank.{isBlank}
 use Rattle.sky.specs.declared.Table.{Table}
 use Rattle.sky.specs.Group.{linesFor, entriesAt, numbered}
 

@@ -37,7 +37,8 @@ use Rattle.trips.proofs.CleanTexts.{joined-length, total}
 use Rattle.trips.proofs.FieldTexts.{field-fixed, long-fixed}
 use Rattle.trips.proofs.Known.{Zero, address-clean, address-five, all-zero, known-gsv}
 use Rattle.trips.proofs.Values.{exact-back, fixed-back, theGot}
-use Rattle.writesat.specs.Gsv.{entryAfters, entryFields, entryOf, gsvBody, gsvFault, gsvFields, gsvWrong, isBlank, isMissing, restBlank, used}
+use Rattle.writesat.specs.Gsv.{entryAfters, entryFields, entryOf, gsvBody, gsvFault, gsvFields, gsvWrong, restBlank, used}
+use Rattle.records.specs.Blank.{isBlank, isMissing}
 use Rattle.records.specs.declared.Sentence.the-variants as S
 use Rattle.tripssat.proofs.Lists.{all-four}
 

@@ -21,7 +21,8 @@ use Rattle.sealing.specs.Written.{wrote}
 use Rattle.trips.proofs.Known.{Zero, all-zero, zero-all}
 use Rattle.trips.proofs.Places.{first-zero}
 use Rattle.trips.proofs.Ranged.{exact-in, fixed-in}
-use Rattle.writesat.specs.Gsv.{entryAfters, gsvFault, gsvWrong, isBlank, restBlank}
+use Rattle.writesat.specs.Gsv.{entryAfters, gsvFault, gsvWrong, restBlank}
+use Rattle.records.specs.Blank.{isBlank}
 use Rattle.records.specs.declared.Sentence.the-variants as S
 use Rattle.tripssat.proofs.Gsv.{Good, theGsv}
 

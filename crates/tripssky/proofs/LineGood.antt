@@ -20,7 +20,8 @@ use Rattle.trips.proofs.Ranged.{in-outside}
 use Rattle.trips.proofs.Values.{inside}
 use Rattle.tripssat.proofs.Gsv.{Good, blank-is}
 use Rattle.tripssat.proofs.Lists.{all-four}
-use Rattle.writesat.specs.Gsv.{entryAfters, entryOf, gsvWrong, isBlank, restBlank}
+use Rattle.writesat.specs.Gsv.{entryAfters, entryOf, gsvWrong, restBlank}
+use Rattle.records.specs.Blank.{isBlank}
 use Rattle.sky.specs.Group.{linesFor, entriesAt, usedOf}
 use Rattle.sky.specs.Sky.{tableOf}
 use Rattle.sky.specs.Table.{entryWrong, lineAt}

@@ -1,12 +1,13 @@
 -- PIRER (1): `0` only.
 use Prim.Native.Nat.{ℕ}
-use mathlib.Core.List.{List, [], _∷_}
-use Rattle.digits.specs.Ascii.{ascii}
+use mathlib.Core.List.{List}
+use Rattle.row.specs.Kind.{fieldsFor}
+use Rattle.commands.specs.Pirer.{pirerRow}
 use Rattle.sealing.specs.Body.{makerBody}
 
--- The fields.
-unfoldable pub pirerFields : List (List ℕ)
-pirerFields = ascii "0" ∷ []
+-- The fields, and the body.
+abbrev pub pirerFields : List (List ℕ)
+pirerFields = fieldsFor pirerRow tt
 
 abbrev pub pirerBody : List ℕ
 pirerBody = makerBody "PIRER" pirerFields

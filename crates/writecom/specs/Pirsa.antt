@@ -1,27 +1,17 @@
 -- PIRSA (3): 8 and 6 digits and an empty third field.
 use Prim.Native.Nat.{ℕ}
-use mathlib.Core.List.{List, [], _∷_}
-use Rattle.masks.specs.Masks.{printHex}
-use Rattle.records.specs.Wrong.{after, firstWrong}
-use Rattle.ranges.specs.Ranges.{outside}
-use Rattle.sealing.specs.Body.{makerBody}
+use mathlib.Core.List.{List}
 use Rattle.records.specs.declared.MasksTold.{MasksTold}
+use Rattle.row.specs.Kind.{faultBy, fieldsFor}
+use Rattle.commands.specs.Pirsa.{pirsaRow}
+use Rattle.sealing.specs.Body.{makerBody}
 
--- The first value outside its range, by the number of its field, or 0.
-unfoldable pub pirsaWrong : MasksTold → ℕ
-pirsaWrong r =
-    firstWrong
-    (after 0 (outside 0 4294967295 (r .gps))
-    ∷ after 1 (outside 0 16777215 (r .glonass))
-    ∷ [])
+-- The first value outside its range, by the number of its field, or 0; the fields; the body.
+abbrev pub pirsaWrong : MasksTold → ℕ
+pirsaWrong = faultBy pirsaRow
 
--- The fields.
-unfoldable pub pirsaFields : MasksTold → List (List ℕ)
-pirsaFields r =
-    printHex 8 (r .gps)
-    ∷ printHex 6 (r .glonass)
-    ∷ []
-    ∷ []
+abbrev pub pirsaFields : MasksTold → List (List ℕ)
+pirsaFields = fieldsFor pirsaRow
 
 abbrev pub pirsaBody : MasksTold → List ℕ
 pirsaBody r = makerBody "PIRSA" (pirsaFields r)

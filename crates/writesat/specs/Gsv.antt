@@ -3,18 +3,15 @@
 -- is 5 with line 0 and field 0, after the used ones.
 use Prim.Native.Nat.{ℕ, _+_}
 use mathlib.Core.List.{List, [], _∷_, _++_}
-use mathlib.Core.Bool.{Bool, true, false, not, _&&_, _||_}
+use mathlib.Core.Bool.{Bool, true, false, _&&_, _||_}
 use lib.Dec.{eqb, ltb}
 use lib.ListN.{getD}
-use Rattle.digits.specs.Decimal.{printFixed}
 use Rattle.address.specs.declared.Talker.{Talker}
 use Rattle.records.specs.declared.Entry.{Entry}
 use Rattle.records.specs.declared.Gsv.{Gsv}
-use Rattle.records.specs.declared.values.Maybe.{Maybe}
-use Rattle.records.specs.Blank.{blankEntry}
+use Rattle.records.specs.Blank.{blankEntry, isBlank}
 use Rattle.records.specs.Wrong.{After, after, firstWrong}
-use Rattle.ranges.specs.Ranges.{outside, rangeWrong}
-use Rattle.texts.specs.Texts.{maybeText}
+use Rattle.satellites.specs.View.{azimuth, elevation, entry, lineNumber, satelliteNumber, satelliteTotal, signal}
 use Rattle.sealing.specs.declared.Written.{Written}
 use Rattle.sealing.specs.Written.{pick, refused, wrote}
 use Rattle.sealing.specs.Body.{standardBody}
@@ -29,10 +26,10 @@ used r k = ltb k (r .count)
 -- The values of a used entry, whose first field stands after n others.
 abbrev pub entryAfters : Bool → ℕ → Entry → List After
 entryAfters true n e =
-    after n (outside 1 99 (e .number))
-    ∷ after (n + 1) (rangeWrong 0 90 (e .elevation .there) (e .elevation .value))
-    ∷ after (n + 2) (rangeWrong 0 359 (e .azimuth .there) (e .azimuth .value))
-    ∷ after (n + 3) (rangeWrong 0 99 (e .signal .there) (e .signal .value))
+    after n (satelliteNumber .fault (e .number))
+    ∷ after (n + 1) (elevation .fault (e .elevation))
+    ∷ after (n + 2) (azimuth .fault (e .azimuth))
+    ∷ after (n + 3) (signal .fault (e .signal))
     ∷ []
 entryAfters false n e = []
 
@@ -40,20 +37,13 @@ entryAfters false n e = []
 unfoldable pub gsvWrong : Gsv → ℕ
 gsvWrong r =
     firstWrong
-    (after 0 (outside 1 9 (r .lines))
-    ∷ after 1 (outside 1 9 (r .line))
-    ∷ after 2 (outside 0 99 (r .satellites))
+    (after 0 (lineNumber .fault (r .lines))
+    ∷ after 1 (lineNumber .fault (r .line))
+    ∷ after 2 (satelliteTotal .fault (r .satellites))
     ∷ (entryAfters (used r 0) 3 (entryOf r 0)
     ++ (entryAfters (used r 1) 7 (entryOf r 1)
     ++ (entryAfters (used r 2) 11 (entryOf r 2)
     ++ entryAfters (used r 3) 15 (entryOf r 3)))))
-
--- Blank is number 0 and three values missing and zero.
-abbrev pub isMissing : Maybe → Bool
-isMissing m = not (m .there) && eqb (m .value) 0
-
-unfoldable pub isBlank : Entry → Bool
-isBlank e = eqb (e .number) 0 && (isMissing (e .elevation) && (isMissing (e .azimuth) && isMissing (e .signal)))
 
 unfoldable pub restBlank : Gsv → Bool
 restBlank r =
@@ -69,23 +59,18 @@ gsvFault r =
 
 -- The fields of an entry, and of a record.
 abbrev pub entryFields : Bool → Entry → List (List ℕ)
-entryFields true e =
-    printFixed 2 (e .number)
-    ∷ maybeText (printFixed 2) (e .elevation)
-    ∷ maybeText (printFixed 3) (e .azimuth)
-    ∷ maybeText (printFixed 2) (e .signal)
-    ∷ []
+entryFields true e = entry .text e
 entryFields false e = []
 
 unfoldable pub gsvFields : Gsv → List (List ℕ)
 gsvFields r =
-    printFixed 1 (r .lines)
-    ∷ printFixed 1 (r .line)
-    ∷ printFixed 2 (r .satellites)
-    ∷ (entryFields (used r 0) (entryOf r 0)
+    lineNumber .text (r .lines)
+    ++ (lineNumber .text (r .line)
+    ++ (satelliteTotal .text (r .satellites)
+    ++ (entryFields (used r 0) (entryOf r 0)
     ++ (entryFields (used r 1) (entryOf r 1)
     ++ (entryFields (used r 2) (entryOf r 2)
-    ++ entryFields (used r 3) (entryOf r 3))))
+    ++ entryFields (used r 3) (entryOf r 3))))))
 
 abbrev pub gsvBody : Talker → Gsv → List ℕ
 gsvBody t r = standardBody t "GSV" (gsvFields r)

@@ -11,7 +11,8 @@ ghost use Rattle.records.specs.Wrong.{nearOf};
 ghost use Rattle.ranges.specs.Ranges.{outside, rangeWrong};
 ghost use Rattle.put.specs.Wrote.{held, Puts, PutsFields};
 ghost use Rattle.sealing.specs.Written.{Writes};
-ghost use Rattle.writesat.specs.Gsv.{isMissing, isBlank, restBlank, gsvWrong, gsvFault, entryFields, gsvFields, gsvBody};
+ghost use Rattle.writesat.specs.Gsv.{restBlank, gsvWrong, gsvFault, entryFields, gsvFields, gsvBody};
+ghost use Rattle.records.specs.Blank.{isMissing, isBlank};
 
 // The first wrong field from an entry's on, whose first field stands after `n` others; `rest` is the first
 // after it, and so it is where the entry is not used.

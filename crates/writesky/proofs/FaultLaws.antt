@@ -17,7 +17,8 @@ use Rattle.trips.proofs.Known.{all-zero}
 use Rattle.trips.proofs.Values.{inside}
 use Rattle.sealing.specs.declared.Written.{Written}
 use Rattle.sealing.specs.Written.{refused, wrote}
-use Rattle.writesat.specs.Gsv.{entryAfters, isBlank}
+use Rattle.writesat.specs.Gsv.{entryAfters}
+use Rattle.records.specs.Blank.{isBlank}
 use Rattle.sky.specs.declared.Table.{Table}
 use Rattle.sky.specs.Marks.{Marks, hadIf, markedIf}
 use Rattle.sky.specs.Table.{orElse, entryWrong, entryFault, faultFrom, allBlank, tableFault}

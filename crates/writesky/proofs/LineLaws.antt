@@ -17,7 +17,8 @@ use Rattle.trips.proofs.Known.{all-zero, zero-all}
 use Rattle.trips.proofs.Ranged.{in-outside}
 use Rattle.sealing.specs.declared.Written.{Written}
 use Rattle.sealing.specs.Written.{pick, refused, wrote}
-use Rattle.writesat.specs.Gsv.{entryOf, used, entryAfters, gsvWrong, isBlank, restBlank, gsvFault}
+use Rattle.writesat.specs.Gsv.{entryOf, used, entryAfters, gsvWrong, restBlank, gsvFault}
+use Rattle.records.specs.Blank.{isBlank}
 use Rattle.sky.specs.declared.Table.{Table}
 use Rattle.sky.specs.Group.{linesFor, entriesAt, numbered, repeats}
 use Rattle.sky.specs.Table.{orElse, entryWrong, entryFault, faultFrom, allBlank, tableFault, lineAt}

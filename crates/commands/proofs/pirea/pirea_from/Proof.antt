@@ -1,18 +1,17 @@
 -- `pirea_from` meets its contract: the first wrong field is found from the last on, as the definition says; without one the record is made.
 use borrow.Author.Needs.{needs}
 use borrow.Author.Tests.{eq-eqb, ne-eqb}
-use Rattle.records.specs.Wrong.{firstWrong}
-use Rattle.records.specs.Answers.{answered}
-use Rattle.commands.specs.Pirea.{pireaFrom}
+use Rattle.row.specs.Kind.{answerBy}
+use Rattle.commands.specs.Pirea.{pireaRow}
 use Rattle.commands.proofs.pirea.pirea_from.Statement.{statement}
 use Rattle.commands.proofs.pirea.pirea_from.Tie as tie
 
 returns : tie.Need-returns
-unfolding pireaFrom answered firstWrong
+unfolding answerBy pireaRow
 returns c = rw (← c .before .near .ensures, ne-eqb _ _ (c .if1 .taken))
 
 returns-2 : tie.Need-returns-2
-unfolding pireaFrom answered firstWrong
+unfolding answerBy pireaRow
 returns-2 c = rw (← c .before .near .ensures, eq-eqb _ _ (c .if1 .left))
 
 pub pirea-from-spec : {M : Type 1} → statement M

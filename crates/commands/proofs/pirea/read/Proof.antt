@@ -2,17 +2,17 @@
 use mathlib.Core.Path.{_∙_}
 use borrow.Author.Needs.{needs}
 use borrow.Author.Tests.{eq-eqb, ne-eqb}
-use Rattle.records.specs.Answers.{counted}
-use Rattle.commands.specs.Pirea.{pireaOf}
+use Rattle.row.specs.Kind.{readBy}
+use Rattle.commands.specs.Pirea.{pireaRow}
 use Rattle.commands.proofs.pirea.read.Statement.{statement}
 use Rattle.commands.proofs.pirea.read.Tie as tie
 
 returns : tie.Need-returns
-unfolding pireaOf counted
+unfolding readBy pireaRow
 returns c = rw (ne-eqb _ _ (c .if1 .taken))
 
 returns-2 : tie.Need-returns-2
-unfolding pireaOf counted
+unfolding readBy pireaRow
 returns-2 c = c .pirea-from .ensures ∙ rw (eq-eqb _ _ (c .before .before .if1 .left), c .before .code-in .ensures)
 
 pub read-spec : {M : Type 1} → statement M

@@ -1,18 +1,17 @@
 -- `pirer_from` meets its contract: the first wrong field is found from the last on, as the definition says; without one the record is made.
 use borrow.Author.Needs.{needs}
 use borrow.Author.Tests.{eq-eqb, ne-eqb}
-use Rattle.records.specs.Wrong.{firstWrong}
-use Rattle.records.specs.Answers.{answered}
-use Rattle.commands.specs.Pirer.{pirerFrom}
+use Rattle.row.specs.Kind.{answerBy}
+use Rattle.commands.specs.Pirer.{pirerRow}
 use Rattle.commands.proofs.pirer.pirer_from.Statement.{statement}
 use Rattle.commands.proofs.pirer.pirer_from.Tie as tie
 
 returns : tie.Need-returns
-unfolding pirerFrom answered firstWrong
+unfolding answerBy pirerRow
 returns c = rw (← c .before .near .ensures, ne-eqb _ _ (c .if1 .taken))
 
 returns-2 : tie.Need-returns-2
-unfolding pirerFrom answered firstWrong
+unfolding answerBy pirerRow
 returns-2 c = rw (← c .before .near .ensures, eq-eqb _ _ (c .if1 .left))
 
 pub pirer-from-spec : {M : Type 1} → statement M

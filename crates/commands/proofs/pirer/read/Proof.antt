@@ -2,17 +2,17 @@
 use mathlib.Core.Path.{_∙_}
 use borrow.Author.Needs.{needs}
 use borrow.Author.Tests.{eq-eqb, ne-eqb}
-use Rattle.records.specs.Answers.{counted}
-use Rattle.commands.specs.Pirer.{pirerOf}
+use Rattle.row.specs.Kind.{readBy}
+use Rattle.commands.specs.Pirer.{pirerRow}
 use Rattle.commands.proofs.pirer.read.Statement.{statement}
 use Rattle.commands.proofs.pirer.read.Tie as tie
 
 returns : tie.Need-returns
-unfolding pirerOf counted
+unfolding readBy pirerRow
 returns c = rw (ne-eqb _ _ (c .if1 .taken))
 
 returns-2 : tie.Need-returns-2
-unfolding pirerOf counted
+unfolding readBy pirerRow
 returns-2 c = c .pirer-from .ensures ∙ rw (eq-eqb _ _ (c .before .before .if1 .left), c .before .exact-in .ensures)
 
 pub read-spec : {M : Type 1} → statement M

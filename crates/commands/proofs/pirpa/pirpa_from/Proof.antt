@@ -1,18 +1,17 @@
 -- `pirpa_from` meets its contract: the first wrong field is found from the last on, as the definition says; without one the record is made.
 use borrow.Author.Needs.{needs}
 use borrow.Author.Tests.{eq-eqb, ne-eqb}
-use Rattle.records.specs.Wrong.{firstWrong}
-use Rattle.records.specs.Answers.{answered}
-use Rattle.commands.specs.Pirpa.{pirpaFrom}
+use Rattle.row.specs.Kind.{answerBy}
+use Rattle.commands.specs.Pirpa.{pirpaRow}
 use Rattle.commands.proofs.pirpa.pirpa_from.Statement.{statement}
 use Rattle.commands.proofs.pirpa.pirpa_from.Tie as tie
 
 returns : tie.Need-returns
-unfolding pirpaFrom answered firstWrong
+unfolding answerBy pirpaRow
 returns c = rw (← c .before .before .before .before .before .before .needed .ensures, ← c .before .before .before .before .before .near .ensures, ← c .before .before .before .before .near2 .ensures, ← c .before .before .before .needed2 .ensures, ← c .before .before .near3 .ensures, ← c .before .near4 .ensures, ne-eqb _ _ (c .if1 .taken))
 
 returns-2 : tie.Need-returns-2
-unfolding pirpaFrom answered firstWrong
+unfolding answerBy pirpaRow
 returns-2 c = rw (← c .before .before .before .before .before .before .needed .ensures, ← c .before .before .before .before .before .near .ensures, ← c .before .before .before .before .near2 .ensures, ← c .before .before .before .needed2 .ensures, ← c .before .before .near3 .ensures, ← c .before .near4 .ensures, eq-eqb _ _ (c .if1 .left))
 
 pub pirpa-from-spec : {M : Type 1} → statement M

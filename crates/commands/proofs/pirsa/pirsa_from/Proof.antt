@@ -1,18 +1,17 @@
 -- `pirsa_from` meets its contract: the first wrong field is found from the last on, as the definition says; without one the record is made.
 use borrow.Author.Needs.{needs}
 use borrow.Author.Tests.{eq-eqb, ne-eqb}
-use Rattle.records.specs.Wrong.{firstWrong}
-use Rattle.records.specs.Answers.{answered}
-use Rattle.commands.specs.Pirsa.{pirsaFrom}
+use Rattle.row.specs.Kind.{answerBy}
+use Rattle.commands.specs.Pirsa.{pirsaRow}
 use Rattle.commands.proofs.pirsa.pirsa_from.Statement.{statement}
 use Rattle.commands.proofs.pirsa.pirsa_from.Tie as tie
 
 returns : tie.Need-returns
-unfolding pirsaFrom answered firstWrong
+unfolding answerBy pirsaRow
 returns c = rw (← c .before .before .before .near .ensures, ← c .before .before .near2 .ensures, ← c .before .near3 .ensures, ne-eqb _ _ (c .if1 .taken))
 
 returns-2 : tie.Need-returns-2
-unfolding pirsaFrom answered firstWrong
+unfolding answerBy pirsaRow
 returns-2 c = rw (← c .before .before .before .near .ensures, ← c .before .before .near2 .ensures, ← c .before .near3 .ensures, eq-eqb _ _ (c .if1 .left))
 
 pub pirsa-from-spec : {M : Type 1} → statement M

@@ -3,18 +3,17 @@ use borrow.Author.Needs.{needs}
 use borrow.Author.Tests.{eq-eqb, ne-eqb}
 use mir.Syntax.{w32}
 use mir.Facts.{toZ-ofZ}
-use Rattle.records.specs.Wrong.{firstWrong}
-use Rattle.records.specs.Answers.{answered}
-use Rattle.commands.specs.Pirta.{pirtaFrom}
+use Rattle.row.specs.Kind.{answerBy}
+use Rattle.commands.specs.Pirta.{pirtaRow}
 use Rattle.commands.proofs.pirta.pirta_from.Statement.{statement}
 use Rattle.commands.proofs.pirta.pirta_from.Tie as tie
 
 returns : tie.Need-returns
-unfolding pirtaFrom answered firstWrong
+unfolding answerBy pirtaRow
 returns c = rw (← c .before .before .before .needed-int .ensures, ← c .before .before .near .ensures, ← c .before .near2 .ensures, ne-eqb _ _ (c .if1 .taken))
 
 returns-2 : tie.Need-returns-2
-unfolding pirtaFrom answered firstWrong
+unfolding answerBy pirtaRow
 returns-2 c = rw (← c .before .before .before .before .needed-int .ensures, ← c .before .before .before .near .ensures, ← c .before .before .near2 .ensures, eq-eqb _ _ (c .before .if1 .left), toZ-ofZ {w = w32} {z = c .before .before .before .before .before .args .zone .value} (search needs))
 
 pub pirta-from-spec : {M : Type 1} → statement M

@@ -2,17 +2,17 @@
 use mathlib.Core.Path.{_∙_}
 use borrow.Author.Needs.{needs}
 use borrow.Author.Tests.{eq-eqb, ne-eqb}
-use Rattle.records.specs.Answers.{counted}
-use Rattle.commands.specs.Pirta.{pirtaOf}
+use Rattle.row.specs.Kind.{readBy}
+use Rattle.commands.specs.Pirta.{pirtaRow}
 use Rattle.commands.proofs.pirta.read.Statement.{statement}
 use Rattle.commands.proofs.pirta.read.Tie as tie
 
 returns : tie.Need-returns
-unfolding pirtaOf counted
+unfolding readBy pirtaRow
 returns c = rw (ne-eqb _ _ (c .if1 .taken))
 
 returns-2 : tie.Need-returns-2
-unfolding pirtaOf counted
+unfolding readBy pirtaRow
 returns-2 c = c .pirta-from .ensures ∙ rw (eq-eqb _ _ (c .before .before .before .if1 .left), c .before .four-in .ensures, c .before .before .exact-in .ensures)
 
 pub read-spec : {M : Type 1} → statement M

@@ -2,17 +2,17 @@
 use mathlib.Core.Path.{_∙_}
 use borrow.Author.Needs.{needs}
 use borrow.Author.Tests.{eq-eqb, ne-eqb}
-use Rattle.records.specs.Answers.{counted}
-use Rattle.commands.specs.Pirtr.{pirtrOf}
+use Rattle.row.specs.Kind.{readBy}
+use Rattle.commands.specs.Pirtr.{pirtrRow}
 use Rattle.commands.proofs.pirtr.read.Statement.{statement}
 use Rattle.commands.proofs.pirtr.read.Tie as tie
 
 returns : tie.Need-returns
-unfolding pirtrOf counted
+unfolding readBy pirtrRow
 returns c = rw (ne-eqb _ _ (c .if1 .taken))
 
 returns-2 : tie.Need-returns-2
-unfolding pirtrOf counted
+unfolding readBy pirtrRow
 returns-2 c = c .pirtr-from .ensures ∙ rw (eq-eqb _ _ (c .before .before .before .if1 .left), c .before .four-in .ensures, c .before .before .fixed-in .ensures)
 
 pub read-spec : {M : Type 1} → statement M

@@ -1,18 +1,17 @@
 -- `gll_from` meets its contract: the first wrong field is found from the last on, as the definition says; without one the record is made.
 use borrow.Author.Needs.{needs}
 use borrow.Author.Tests.{eq-eqb, ne-eqb}
-use Rattle.records.specs.Wrong.{firstWrong}
-use Rattle.records.specs.Answers.{answered}
-use Rattle.navigation.specs.Gll.{gllFrom}
+use Rattle.row.specs.Kind.{answerBy}
+use Rattle.navigation.specs.Gll.{gllRow}
 use Rattle.navigation.proofs.gll.gll_from.Statement.{statement}
 use Rattle.navigation.proofs.gll.gll_from.Tie as tie
 
 returns : tie.Need-returns
-unfolding gllFrom answered firstWrong
+unfolding answerBy gllRow
 returns c = rw (← c .before .before .before .before .near .ensures, ← c .before .before .before .near2 .ensures, ← c .before .before .near3 .ensures, ← c .before .near4 .ensures, ne-eqb _ _ (c .if1 .taken))
 
 returns-2 : tie.Need-returns-2
-unfolding gllFrom answered firstWrong
+unfolding answerBy gllRow
 returns-2 c = rw (← c .before .before .before .before .before .before .near .ensures, ← c .before .before .before .before .before .near2 .ensures, ← c .before .before .before .before .near3 .ensures, ← c .before .before .before .near4 .ensures, eq-eqb _ _ (c .before .before .if1 .left), c .before .placed .ensures, c .kept .ensures)
 
 pub gll-from-spec : {M : Type 1} → statement M

@@ -2,17 +2,17 @@
 use mathlib.Core.Path.{_∙_}
 use borrow.Author.Needs.{needs}
 use borrow.Author.Tests.{eq-eqb, ne-eqb}
-use Rattle.records.specs.Answers.{counted}
-use Rattle.navigation.specs.Gll.{gllOf}
+use Rattle.row.specs.Kind.{readBy}
+use Rattle.navigation.specs.Gll.{gllRow}
 use Rattle.navigation.proofs.gll.read.Statement.{statement}
 use Rattle.navigation.proofs.gll.read.Tie as tie
 
 returns : tie.Need-returns
-unfolding gllOf counted
+unfolding readBy gllRow
 returns c = rw (ne-eqb _ _ (c .if1 .taken))
 
 returns-2 : tie.Need-returns-2
-unfolding gllOf counted
+unfolding readBy gllRow
 returns-2 c = c .gll-from .ensures ∙ rw (eq-eqb _ _ (c .before .before .before .before .before .before .before .if1 .left), c .before .letter-in2 .ensures, c .before .before .before .letter-in .ensures, c .before .before .before .before .before .time-in .ensures, c .before .before .before .before .before .before .position-in .ensures)
 
 pub read-spec : {M : Type 1} → statement M

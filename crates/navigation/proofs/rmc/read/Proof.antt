@@ -2,17 +2,17 @@
 use mathlib.Core.Path.{_∙_}
 use borrow.Author.Needs.{needs}
 use borrow.Author.Tests.{eq-eqb, ne-eqb}
-use Rattle.records.specs.Answers.{counted}
-use Rattle.navigation.specs.Rmc.{rmcOf}
+use Rattle.row.specs.Kind.{readBy}
+use Rattle.navigation.specs.Rmc.{rmcRow}
 use Rattle.navigation.proofs.rmc.read.Statement.{statement}
 use Rattle.navigation.proofs.rmc.read.Tie as tie
 
 returns : tie.Need-returns
-unfolding rmcOf counted
+unfolding readBy rmcRow
 returns c = rw (ne-eqb _ _ (c .if1 .taken))
 
 returns-2 : tie.Need-returns-2
-unfolding rmcOf counted
+unfolding readBy rmcRow
 returns-2 c = c .rmc-from .ensures ∙ rw (eq-eqb _ _ (c .before .before .before .before .before .before .before .before .before .before .before .if1 .left), c .before .letter-in2 .ensures, c .before .before .before .variation-in .ensures, c .before .before .before .before .six-in .ensures, c .before .before .before .before .before .below-in .ensures, c .before .before .before .before .before .before .number-in .ensures, c .before .before .before .before .before .before .before .position-in .ensures, c .before .before .before .before .before .before .before .before .letter-in .ensures, c .before .before .before .before .before .before .before .before .before .before .time-in .ensures)
 
 pub read-spec : {M : Type 1} → statement M

@@ -2,17 +2,17 @@
 use mathlib.Core.Path.{_∙_}
 use borrow.Author.Needs.{needs}
 use borrow.Author.Tests.{eq-eqb, ne-eqb}
-use Rattle.records.specs.Answers.{counted}
-use Rattle.navigation.specs.Vtg.{vtgOf}
+use Rattle.row.specs.Kind.{readBy}
+use Rattle.navigation.specs.Vtg.{vtgRow}
 use Rattle.navigation.proofs.vtg.read.Statement.{statement}
 use Rattle.navigation.proofs.vtg.read.Tie as tie
 
 returns : tie.Need-returns
-unfolding vtgOf counted
+unfolding readBy vtgRow
 returns c = rw (ne-eqb _ _ (c .if1 .taken))
 
 returns-2 : tie.Need-returns-2
-unfolding vtgOf counted
+unfolding readBy vtgRow
 returns-2 c = c .vtg-from .ensures ∙ rw (eq-eqb _ _ (c .before .before .before .before .before .before .before .before .before .before .before .if1 .left), c .before .letter-in .ensures, c .before .before .before .unit-in4 .ensures, c .before .before .before .before .number-in2 .ensures, c .before .before .before .before .before .unit-in3 .ensures, c .before .before .before .before .before .before .number-in .ensures, c .before .before .before .before .before .before .before .unit-in2 .ensures, c .before .before .before .before .before .before .before .before .below-in2 .ensures, c .before .before .before .before .before .before .before .before .before .unit-in .ensures, c .before .before .before .before .before .before .before .before .before .before .below-in .ensures)
 
 pub read-spec : {M : Type 1} → statement M

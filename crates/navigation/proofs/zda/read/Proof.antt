@@ -2,17 +2,17 @@
 use mathlib.Core.Path.{_∙_}
 use borrow.Author.Needs.{needs}
 use borrow.Author.Tests.{eq-eqb, ne-eqb}
-use Rattle.records.specs.Answers.{counted}
-use Rattle.navigation.specs.Zda.{zdaOf}
+use Rattle.row.specs.Kind.{readBy}
+use Rattle.navigation.specs.Zda.{zdaRow}
 use Rattle.navigation.proofs.zda.read.Statement.{statement}
 use Rattle.navigation.proofs.zda.read.Tie as tie
 
 returns : tie.Need-returns
-unfolding zdaOf counted
+unfolding readBy zdaRow
 returns c = rw (ne-eqb _ _ (c .if1 .taken))
 
 returns-2 : tie.Need-returns-2
-unfolding zdaOf counted
+unfolding readBy zdaRow
 returns-2 c = c .zda-from .ensures ∙ rw (eq-eqb _ _ (c .before .before .before .before .if1 .left), c .before .zone-in .ensures, c .before .before .three-in .ensures, c .before .before .before .time-in .ensures)
 
 pub read-spec : {M : Type 1} → statement M

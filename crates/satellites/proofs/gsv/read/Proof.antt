@@ -1,5 +1,8 @@
 -- `read` meets its contract: the number of entries decides, then each field's form.
-use mathlib.Core.Path.{_∙_}
+use Prim.Native.Nat.{ℕ}
+use mathlib.Core.Path.{ap, _∙_}
+use Rattle.fields.specs.Places.{fieldsBy}
+use Rattle.satellites.proofs.Places.{with-few}
 use borrow.Author.Tests.{lt-ltb, le-ltb}
 use Rattle.satellites.specs.View.{gsvOf, gsvWith}
 use borrow.Author.Needs.{needs}
@@ -11,8 +14,23 @@ unfolding gsvOf gsvWith
 returns c = c .alone .ensures ∙ rw (← c .before .before .entries-of .ensures, lt-ltb _ _ (c .before .if1 .taken))
 
 returns-2 : tie.Need-returns-2
-unfolding gsvOf gsvWith
-returns-2 c = c .gsv-from .ensures ∙ rw (← c .before .before .before .before .before .before .before .before .before .entries-of .ensures, le-ltb _ _ (c .before .before .before .before .before .before .before .before .if1 .left), c .before .entry-in4 .ensures, c .before .before .entry-in3 .ensures, c .before .before .before .entry-in2 .ensures, c .before .before .before .before .entry-in .ensures, c .before .before .before .before .before .exact-in3 .ensures, c .before .before .before .before .before .before .exact-in2 .ensures, c .before .before .before .before .before .before .before .exact-in .ensures)
+unfolding gsvOf
+returns-2 c =
+    let b4 = c .before .before .before .before in
+    let b8 = b4 .before .before .before .before in
+    let args = b8 .before .before .before .before .args in
+    let field = fieldsBy (args .p .now) (args .s .now) in
+    c .gsv-from .ensures
+    ∙ rw (
+      c .before .entry-in4 .ensures,
+      c .before .before .entry-in3 .ensures,
+      c .before .before .before .entry-in2 .ensures,
+      b4 .entry-in .ensures,
+      b4 .before .exact-in3 .ensures,
+      b4 .before .before .exact-in2 .ensures,
+      b4 .before .before .before .exact-in .ensures,
+    ) (with-few (args .t) (b8 .before .entries-of .result) field (le-ltb _ _ (b8 .if1 .left)))
+    ∙ ap (λ (count : ℕ). gsvWith (args .t) count field) (b8 .before .entries-of .ensures)
 
 pub read-spec : {M : Type 1} → statement M
 read-spec =

@@ -1,13 +1,13 @@
 -- The first wrong field is found from the last on, as the definition says.
 use mathlib.Core.Path.{_∙_}
-use Rattle.records.specs.Wrong.{firstWrong}
-use Rattle.writecom.specs.Pirea.{pireaWrong}
 use borrow.Author.Needs.{needs}
+use Rattle.row.specs.Kind.{faultBy}
+use Rattle.commands.specs.Pirea.{pireaRow}
 use Rattle.writecom.proofs.pirea.wrong.Statement.{statement}
 use Rattle.writecom.proofs.pirea.wrong.Tie as tie
 
 returns : tie.Need-returns
-unfolding pireaWrong firstWrong
+unfolding faultBy pireaRow
 returns c = c .near .ensures ∙ rw (c .before .within .ensures)
 
 pub wrong-spec : {M : Type 1} → statement M

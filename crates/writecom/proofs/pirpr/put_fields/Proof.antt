@@ -1,12 +1,13 @@
 -- Field after field.
 use Rattle.put.proofs.Chain.{_then_}
-use Rattle.writecom.specs.Pirpr.{pirprFields}
 use borrow.Author.Needs.{needs}
+use Rattle.row.specs.Kind.{fieldsFor}
+use Rattle.commands.specs.Pirpr.{pirprRow}
 use Rattle.writecom.proofs.pirpr.put_fields.Statement.{statement}
 use Rattle.writecom.proofs.pirpr.put_fields.Tie as tie
 
 returns : tie.Need-returns
-unfolding pirprFields
+unfolding fieldsFor pirprRow
 returns c = c .before .before .before .before .before .before .before .before .before .before .before .before .before .before .one .ensures then c .before .before .before .before .before .before .before .before .before .before .plain .ensures then c .before .before .before .before .before .before .one2 .ensures then c .before .before .four .ensures
 
 pub put-fields-spec : {M : Type 1} → statement M

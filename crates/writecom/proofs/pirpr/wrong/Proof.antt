@@ -1,13 +1,13 @@
 -- The first wrong field is found from the last on, as the definition says.
 use mathlib.Core.Path.{_∙_}
-use Rattle.records.specs.Wrong.{firstWrong}
-use Rattle.writecom.specs.Pirpr.{pirprWrong}
 use borrow.Author.Needs.{needs}
+use Rattle.row.specs.Kind.{faultBy}
+use Rattle.commands.specs.Pirpr.{pirprRow}
 use Rattle.writecom.proofs.pirpr.wrong.Statement.{statement}
 use Rattle.writecom.proofs.pirpr.wrong.Tie as tie
 
 returns : tie.Need-returns
-unfolding pirprWrong firstWrong
+unfolding faultBy pirprRow
 returns c = c .near4 .ensures ∙ rw (c .before .maybe3 .ensures, c .before .before .near3 .ensures, c .before .before .before .maybe2 .ensures, c .before .before .before .before .near2 .ensures, c .before .before .before .before .before .alike2 .ensures, c .before .before .before .before .before .before .maybe .ensures, c .before .before .before .before .before .before .before .near .ensures, c .before .before .before .before .before .before .before .before .alike .ensures, c .before .before .before .before .before .before .before .before .before .port-mask .ensures)
 
 pub wrong-spec : {M : Type 1} → statement M

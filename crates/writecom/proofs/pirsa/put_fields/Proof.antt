@@ -1,12 +1,13 @@
 -- Field after field.
 use Rattle.put.proofs.Chain.{_then_}
-use Rattle.writecom.specs.Pirsa.{pirsaFields}
 use borrow.Author.Needs.{needs}
+use Rattle.row.specs.Kind.{fieldsFor}
+use Rattle.commands.specs.Pirsa.{pirsaRow}
 use Rattle.writecom.proofs.pirsa.put_fields.Statement.{statement}
 use Rattle.writecom.proofs.pirsa.put_fields.Tie as tie
 
 returns : tie.Need-returns
-unfolding pirsaFields
+unfolding fieldsFor pirsaRow
 returns c = c .before .before .before .before .before .before .before .before .before .before .eight .ensures then c .before .before .before .before .before .before .six .ensures then c .before .before .empty .ensures
 
 pub put-fields-spec : {M : Type 1} → statement M

@@ -1,14 +1,15 @@
 -- The first wrong field is found from the last on, as the definition says.
 use mathlib.Core.Path.{_∙_}
-use Rattle.records.specs.Wrong.{firstWrong}
-use Rattle.writecom.specs.Pirsa.{pirsaWrong}
 use borrow.Author.Needs.{needs}
+use Rattle.writecom.proofs.Empty.{never-wrong}
+use Rattle.row.specs.Kind.{faultBy}
+use Rattle.commands.specs.Pirsa.{pirsaRow}
 use Rattle.writecom.proofs.pirsa.wrong.Statement.{statement}
 use Rattle.writecom.proofs.pirsa.wrong.Tie as tie
 
 returns : tie.Need-returns
-unfolding pirsaWrong firstWrong
-returns c = c .near2 .ensures ∙ rw (c .before .within2 .ensures, c .before .before .near .ensures, c .before .before .before .within .ensures)
+unfolding faultBy pirsaRow
+returns c = c .near2 .ensures ∙ rw (c .before .within2 .ensures, c .before .before .near .ensures, c .before .before .before .within .ensures, never-wrong 2)
 
 pub wrong-spec : {M : Type 1} → statement M
 wrong-spec = tie.close (tie.spec (λ c κs. search needs) (λ c κs. search needs) (λ c κs. search needs) (λ c κs. search needs) returns)

@@ -1,12 +1,13 @@
 -- Field after field.
 use Rattle.put.proofs.Chain.{_then_}
-use Rattle.writecom.specs.Pirsr.{pirsrFields}
 use borrow.Author.Needs.{needs}
+use Rattle.row.specs.Kind.{fieldsFor}
+use Rattle.commands.specs.Pirsr.{pirsrRow}
 use Rattle.writecom.proofs.pirsr.put_fields.Statement.{statement}
 use Rattle.writecom.proofs.pirsr.put_fields.Tie as tie
 
 returns : tie.Need-returns
-unfolding pirsrFields
+unfolding fieldsFor pirsrRow
 returns c = c .before .before .before .before .before .before .before .before .before .before .eight .ensures then c .before .before .before .before .before .before .six .ensures then c .before .before .empty .ensures
 
 pub put-fields-spec : {M : Type 1} → statement M

@@ -3,8 +3,9 @@ use mir.Syntax.{w32}
 use mir.Facts.{toZ-ofZ}
 use mir.Val.{SFits}
 use Rattle.put.proofs.Chain.{_then_}
-use Rattle.writecom.specs.Pirtr.{pirtrFields}
 use borrow.Author.Needs.{needs}
+use Rattle.row.specs.Kind.{fieldsFor}
+use Rattle.commands.specs.Pirtr.{pirtrRow}
 use Rattle.writecom.proofs.pirtr.put_fields.Statement.{statement}
 use Rattle.writecom.proofs.pirtr.put_fields.Tie as tie
 
@@ -12,7 +13,7 @@ fits1 : (c : tie.Start) → SFits w32 (c .args .r .zone .minutes)
 fits1 c = search needs
 
 returns : tie.Need-returns
-unfolding pirtrFields
+unfolding fieldsFor pirtrRow
 returns c = c .before .before .before .before .before .before .before .one .ensures then (rw (toZ-ofZ {w = w32} {z = c .before .before .before .before .before .before .before .before .before .before .args .r .zone .minutes} (fits1 (c .before .before .before .before .before .before .before .before .before .before))) at (c .before .before .zone-four .ensures))
 
 pub put-fields-spec : {M : Type 1} → statement M

@@ -3,8 +3,9 @@ use mir.Syntax.{w32}
 use mir.Facts.{toZ-ofZ}
 use mir.Val.{SFits}
 use Rattle.put.proofs.Chain.{_then_, fields-kept}
-use Rattle.writenav.specs.Gga.{ggaFields}
 use borrow.Author.Needs.{needs}
+use Rattle.row.specs.Kind.{fieldsFor}
+use Rattle.navigation.specs.Gga.{ggaRow}
 use Rattle.writenav.proofs.gga.put_fields.Statement.{statement}
 use Rattle.writenav.proofs.gga.put_fields.Tie as tie
 
@@ -15,7 +16,7 @@ fits2 : (c : tie.Start) → SFits w32 (c .args .r .geoid .value)
 fits2 c = search needs
 
 returns : tie.Need-returns
-unfolding ggaFields
+unfolding fieldsFor ggaRow
 returns c = c .before .before .before .before .before .before .before .before .before .before .before .before .before .before .before .before .before .before .before .before .before .before .before .before .before .before .before .before .before .before .before .before .before .before .before .before .before .before .before .before .before .before .before .before .time .ensures then c .before .before .before .before .before .before .before .before .before .before .before .before .before .before .before .before .before .before .before .before .before .before .before .before .before .before .before .before .before .before .before .before .before .before .before .before .before .before .before .before .place .ensures then c .before .before .before .before .before .before .before .before .before .before .before .before .before .before .before .before .before .before .before .before .before .before .before .before .before .before .before .before .before .before .before .before .before .before .before .before .one .ensures then c .before .before .before .before .before .before .before .before .before .before .before .before .before .before .before .before .before .before .before .before .before .before .before .before .before .before .before .before .before .before .before .before .two .ensures then c .before .before .before .before .before .before .before .before .before .before .before .before .before .before .before .before .before .before .before .before .before .before .before .before .before .before .before .before .number .ensures then (rw (toZ-ofZ {w = w32} {z = c .before .before .before .before .before .before .before .before .before .before .before .before .before .before .before .before .before .before .before .before .before .before .before .before .before .before .before .before .before .before .before .before .before .before .before .before .before .before .before .before .before .before .before .before .before .before .before .args .r .altitude .value} (fits1 (c .before .before .before .before .before .before .before .before .before .before .before .before .before .before .before .before .before .before .before .before .before .before .before .before .before .before .before .before .before .before .before .before .before .before .before .before .before .before .before .before .before .before .before .before .before .before .before))) at (c .before .before .before .before .before .before .before .before .before .before .before .before .before .before .before .before .before .before .before .before .before .before .before .height .ensures)) then c .before .before .before .before .before .before .before .before .before .before .before .before .before .before .before .before .before .before .before .unit .ensures then (rw (toZ-ofZ {w = w32} {z = c .before .before .before .before .before .before .before .before .before .before .before .before .before .before .before .before .before .before .before .before .before .before .before .before .before .before .before .before .before .before .before .before .before .before .before .before .before .before .before .before .before .before .before .before .before .before .before .args .r .geoid .value} (fits2 (c .before .before .before .before .before .before .before .before .before .before .before .before .before .before .before .before .before .before .before .before .before .before .before .before .before .before .before .before .before .before .before .before .before .before .before .before .before .before .before .before .before .before .before .before .before .before .before))) at (c .before .before .before .before .before .before .before .before .before .before .before .before .before .before .height2 .ensures)) then c .before .before .before .before .before .before .before .before .before .before .unit2 .ensures then c .before .before .before .before .before .before .number2 .ensures then c .before .before .four .ensures
 
 same-length : tie.Need-same-length

@@ -1,12 +1,13 @@
 -- Field after field.
 use Rattle.put.proofs.Chain.{_then_}
-use Rattle.writenav.specs.Gll.{gllFields}
 use borrow.Author.Needs.{needs}
+use Rattle.row.specs.Kind.{fieldsFor}
+use Rattle.navigation.specs.Gll.{gllRow}
 use Rattle.writenav.proofs.gll.put_fields.Statement.{statement}
 use Rattle.writenav.proofs.gll.put_fields.Tie as tie
 
 returns : tie.Need-returns
-unfolding gllFields
+unfolding fieldsFor gllRow
 returns c = c .before .before .before .before .before .before .before .before .before .before .before .before .before .before .place .ensures then c .before .before .before .before .before .before .before .before .before .before .time .ensures then c .before .before .before .before .before .before .letter .ensures then c .before .before .letter2 .ensures
 
 pub put-fields-spec : {M : Type 1} → statement M

@@ -1,13 +1,13 @@
 -- The first wrong field is found from the last on, as the definition says.
 use mathlib.Core.Path.{_∙_}
-use Rattle.records.specs.Wrong.{firstWrong}
-use Rattle.writenav.specs.Gll.{gllWrong}
 use borrow.Author.Needs.{needs}
+use Rattle.row.specs.Kind.{faultBy}
+use Rattle.navigation.specs.Gll.{gllRow}
 use Rattle.writenav.proofs.gll.wrong.Statement.{statement}
 use Rattle.writenav.proofs.gll.wrong.Tie as tie
 
 returns : tie.Need-returns
-unfolding gllWrong firstWrong
+unfolding faultBy gllRow
 returns c = c .near4 .ensures ∙ rw (c .before .place .ensures, c .before .before .near3 .ensures, c .before .before .before .maybe .ensures, c .before .before .before .before .near2 .ensures, c .before .before .before .before .before .letter2 .ensures, c .before .before .before .before .before .before .before .near .ensures, c .before .before .before .before .before .before .before .before .letter .ensures)
 
 pub wrong-spec : {M : Type 1} → statement M

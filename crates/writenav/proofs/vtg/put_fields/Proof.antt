@@ -1,12 +1,13 @@
 -- Field after field.
 use Rattle.put.proofs.Chain.{_then_, fields-kept}
-use Rattle.writenav.specs.Vtg.{vtgFields}
 use borrow.Author.Needs.{needs}
+use Rattle.row.specs.Kind.{fieldsFor}
+use Rattle.navigation.specs.Vtg.{vtgRow}
 use Rattle.writenav.proofs.vtg.put_fields.Statement.{statement}
 use Rattle.writenav.proofs.vtg.put_fields.Tie as tie
 
 returns : tie.Need-returns
-unfolding vtgFields
+unfolding fieldsFor vtgRow
 returns c = c .before .before .before .before .before .before .before .before .before .before .before .before .before .before .before .before .before .before .before .before .before .before .before .before .before .before .before .before .before .before .before .before .before .before .number .ensures then c .before .before .before .before .before .before .before .before .before .before .before .before .before .before .before .before .before .before .before .before .before .before .before .before .before .before .before .before .before .before .unit .ensures then c .before .before .before .before .before .before .before .before .before .before .before .before .before .before .before .before .before .before .before .before .before .before .before .before .before .before .number2 .ensures then c .before .before .before .before .before .before .before .before .before .before .before .before .before .before .before .before .before .before .before .before .before .before .unit2 .ensures then c .before .before .before .before .before .before .before .before .before .before .before .before .before .before .before .before .before .before .number3 .ensures then c .before .before .before .before .before .before .before .before .before .before .before .before .before .before .unit3 .ensures then c .before .before .before .before .before .before .before .before .before .before .number4 .ensures then c .before .before .before .before .before .before .unit4 .ensures then c .before .before .letter .ensures
 
 same-length : tie.Need-same-length

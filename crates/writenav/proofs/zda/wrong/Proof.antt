@@ -3,9 +3,9 @@ use mathlib.Core.Path.{_∙_}
 use mir.Syntax.{w32}
 use mir.Facts.{toZ-ofZ}
 use mir.Val.{SFits}
-use Rattle.records.specs.Wrong.{firstWrong}
-use Rattle.writenav.specs.Zda.{zdaWrong}
 use borrow.Author.Needs.{needs}
+use Rattle.row.specs.Kind.{faultBy}
+use Rattle.navigation.specs.Zda.{zdaRow}
 use Rattle.writenav.proofs.zda.wrong.Statement.{statement}
 use Rattle.writenav.proofs.zda.wrong.Tie as tie
 
@@ -13,7 +13,7 @@ fits1 : (c : tie.Start) → SFits w32 (c .args .r .zone .minutes)
 fits1 c = search needs
 
 returns : tie.Need-returns
-unfolding zdaWrong firstWrong
+unfolding faultBy zdaRow
 returns c = c .near3 .ensures ∙ rw (c .before .maybe .ensures, c .before .before .near2 .ensures, c .before .before .before .three .ensures, c .before .before .before .before .near .ensures, c .before .before .before .before .before .signed .ensures, toZ-ofZ {w = w32} {z = c .before .before .before .before .before .before .before .args .r .zone .minutes} (fits1 (c .before .before .before .before .before .before .before)))
 
 pub wrong-spec : {M : Type 1} → statement M

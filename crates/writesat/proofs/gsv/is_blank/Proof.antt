@@ -1,5 +1,5 @@
 -- Each value by itself.
-use Rattle.writesat.specs.Gsv.{isBlank}
+use Rattle.records.specs.Blank.{isBlank}
 use borrow.Author.Needs.{needs}
 use Rattle.writesat.proofs.gsv.is_blank.Statement.{statement}
 use Rattle.writesat.proofs.gsv.is_blank.Tie as tie
