@@ -1,2 +1,5 @@
 pub mod Laws
+pub mod FormLaws
+pub mod SeveralLaws
+pub mod NeededLaws
 pub mod Trips
