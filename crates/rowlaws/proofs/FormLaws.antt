@@ -2,7 +2,7 @@
 use Prim.Native.Nat.{ℕ, suc, _^_, _≤_, _<_}
 use Prim.Native.String.{String}
 use mathlib.Core.Path.{_≡_, refl, ap, _∙_}
-use mathlib.Core.List.{List, [], _∷_}
+use mathlib.Core.List.{List}
 use mathlib.Core.Bool.{Bool, true, false, cond}
 use native.Mathlib.Omega.{arith}
 use lib.Dec.{ltb, lit<, lit≤}
@@ -34,23 +34,10 @@ use Rattle.trips.proofs.RangedNumbers.{number-short, port-in, rate-in, satellit
 use Rattle.trips.proofs.RangedPlaces.{six-in, six-short}
 use Rattle.trips.proofs.Values.{below-back, code-back, empty-back, exact-back, fixed-back, height-back, inside, letter-back, number-back}
 use Rattle.trips.proofs.Values.{port-back, rate-back, satellites-back, theGot, time-back, whole-back}
-use Rattle.row.specs.Row.{Form, one}
+use Rattle.row.specs.Row.{one}
 use Rattle.row.specs.Forms.{code, course, ddmmyy, emptyField, exact, fixed, height, kmh, kmhUnit, knots, knotsUnit, letter, magneticCourse}
 use Rattle.row.specs.Forms.{metres, mode, number, portMask, rate, satelliteMask, station, status, time, trueCourse, wholeMask, zeroDigit}
-use Rattle.rowlaws.proofs.Laws.{LawfulForm, ShortForm, Tight, tight-measured, tight-one}
-
--- A form of one field, by what the field reads as.
-abbrev ofOne : {G X : Type 0} → ℕ → (List ℕ → G) → (G → ℕ) → (G → X) → (X → ℕ) → (X → List ℕ) → Form G X
-ofOne most read wrong value fault text =
-    record {
-      width = 1;
-      most = most;
-      got = λ field. read (field 1);
-      wrong = wrong;
-      value = value;
-      fault = fault;
-      text = λ v. text v ∷ [];
-    }
+use Rattle.rowlaws.proofs.Laws.{LawfulForm, ofOne, ShortForm, Tight, tight-measured, tight-one}
 
 module _ {G X : Type 0} {most : ℕ} (read : List ℕ → G) {wrong : G → ℕ} {value : G → X} {fault : X → ℕ} {text : X → List ℕ} where
   -- The text of a value in range reads as `good` says, which has no wrong field and that value.

@@ -122,6 +122,19 @@ total-append : (s t : List (List ℕ)) → total (s ++ t) ≡ total s + total t
 total-append [] t = sym (zero-add (total t))
 total-append (f ∷ s) t = omega (arith, total-append s t)
 
+-- A form of one field, by what the field reads as.
+abbrev pub ofOne : {G X : Type 0} → ℕ → (List ℕ → G) → (G → ℕ) → (G → X) → (X → ℕ) → (X → List ℕ) → Form G X
+ofOne most read wrong value fault text =
+    record {
+      width = 1;
+      most = most;
+      got = λ field. read (field 1);
+      wrong = wrong;
+      value = value;
+      fault = fault;
+      text = λ v. text v ∷ [];
+    }
+
 -- A row of one form.
 module _ {G X : Type 0} {f : Form G X} (l : LawfulForm f) where
   own : (v : X) (field : ℕ → List ℕ) (n : ℕ) (rest : List (List ℕ)) → Begins field n (f .width) (f .text v ++ rest)
