@@ -6,3 +6,5 @@ pub mod Trips
 pub mod PlaceLaws
 pub mod PlaceRows
 pub mod PlaceKind
+pub mod PlaceForms
+pub mod PlaceNeeded

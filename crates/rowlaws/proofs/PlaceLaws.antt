@@ -86,20 +86,26 @@ pub anew : {wrong : (ℕ → List ℕ) → ℕ} {field : ℕ → List ℕ} {at :
 anew other c e =
     record { other = other; before = λ j h. let z : ⊥ = omega arith in absurd z; clean = λ j h k. c j h; accepted = e }
 
--- A form of one field names no other, and a text that it reads is enough.
+-- A form of one field: it names no other, and a text that it reads is enough.
+pub prefix-narrow : {G X : Type 0} (f : Form G X) → f .width ≡ 1
+    → ((field other : ℕ → List ℕ) → other 1 ≡ field 1 → f .got other ≡ f .got field) → ((field : ℕ → List ℕ) → named f field ≤ 1)
+    → (s : List ℕ) → Clean s → named f (λ k. s) ≡ 0 → PrefixForm f
+prefix-narrow f wide own few s c good =
+    record {
+      own = λ field other a. own field other (a 0 (omega (arith, wide)));
+      within = λ field. omega (arith, wide, few field);
+      stays = λ field other h a. ap (f .wrong) (own field other (a 0 h));
+      completed = λ field h u.
+          let one : 1 ≡ named f field = omega (arith, few field) in
+          subst (Completed (named f) field suc (f .width)) one (anew (λ k. s) (λ j i. c) good);
+      fresh = λ field. anew (λ k. s) (λ j i. c) good;
+    }
+
 pub prefix-single : {G X : Type 0} {most : ℕ} (read : List ℕ → G) {wrong : G → ℕ} {value : G → X} {fault : X → ℕ} {text : X → List ℕ}
     → ((s : List ℕ) → wrong (read s) ≤ 1) → (s : List ℕ) → Clean s → wrong (read s) ≡ 0
     → PrefixForm (ofOne most read wrong value fault text)
-prefix-single read {wrong} few s c good =
-    record {
-      own = λ field other a. ap read (a 0 (omega arith));
-      within = λ field. few (field 1);
-      stays = λ field other h a. ap (λ (t : List ℕ). wrong (read t)) (a 0 h);
-      completed = λ field h u.
-          let one : 1 ≡ wrong (read (field 1)) = omega (arith, few (field 1)) in
-          subst (Completed (λ o. wrong (read (o 1))) field suc 1) one (anew (λ k. s) (λ j i. c) good);
-      fresh = λ field. anew (λ k. s) (λ j i. c) good;
-    }
+prefix-single {most = most} read {wrong} {value} {fault} {text} few s c good =
+    prefix-narrow (ofOne most read wrong value fault text) refl (λ field other e. ap read e) (λ field. few (field 1)) s c good
 
 -- A form that stands only where it is on; else it has no field to name.
 pub prefix-onlyIf : {G X : Type 0} (none : G) (filled : X → ℕ) (f : Form G X) → f .wrong none ≡ 0 → PrefixForm f → (on : Bool)
