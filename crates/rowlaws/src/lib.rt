@@ -1,0 +1,1 @@
+// The laws of forms and rows, for every kind of sentence: proofs only.
