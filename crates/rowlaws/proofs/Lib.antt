@@ -3,6 +3,7 @@ pub mod FormLaws
 pub mod SeveralLaws
 pub mod NeededLaws
 pub mod Trips
+pub mod KindLaws
 pub mod PlaceLaws
 pub mod PlaceRows
 pub mod PlaceKind

@@ -1,8 +1,1 @@
-pub mod Pirsr
-pub mod Pirsa
-pub mod Pirea
-pub mod Pirpa
-pub mod Pirta
-pub mod Pirpr
-pub mod Pirtr
-pub mod Pirer
+pub mod Commands

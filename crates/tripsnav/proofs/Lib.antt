@@ -1,5 +1,1 @@
-pub mod Gga
-pub mod Gll
-pub mod Rmc
-pub mod Vtg
-pub mod Zda
+pub mod Navigation
