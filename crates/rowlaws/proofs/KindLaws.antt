@@ -37,14 +37,14 @@ pub record Standard {A G R : Type 0} (refuse : ℕ → ℕ → A) (as-read : A �
 module _ {A G R : Type 0} (refuse : ℕ → ℕ → A) (as-read : A → Reading) (name : String) (row : Row G R) (make : Talker → R → A) where
   pub standard : Tight row → length (ascii name) ≡ 3 → Clean (ascii name) → 1 ≤ row .width → (address : Talker → Address)
       → ((t : Talker) → knownOf (talkerText t ++ ascii name) ≡ address t)
-      → ((t : Talker) (n : ℕ) (field : ℕ → List ℕ) → addressed (address t) n field ≡ as-read (readBy refuse row (make t) n field))
+      → ((t : Talker) (field : ℕ → List ℕ) → addressed (address t) (row .width) field ≡ as-read (readBy refuse row (make t) (row .width) field))
       → Standard refuse as-read name row make
   standard l three clean some address known leads =
       record {
         read-write = λ t r good fits.
             line-back refuse row (l .0) (make t) as-read (talkerText t ++ ascii name) (address-five t (ascii name) three)
             (address-clean t (ascii name) three clean) some
-            (λ n field. ap (λ (x : Address). addressed x n field) (known t) ∙ leads t n field) r good fits;
+            (λ field. ap (λ (x : Address). addressed x (row .width) field) (known t) ∙ leads t field) r good fits;
         write-read = λ t n field P refused. read-shorter refuse row (l .0) (make t) n field P refused (l .1);
       }
 
@@ -68,12 +68,13 @@ module _ {G R : Type 0} (name : String) (row : Row G R) (make : R → Sentence) 
   short r good = omega (arith, most, five, body-long S.Refused row l make (ascii name) r good)
 
   pub maker : Clean (ascii name) → 1 ≤ row .width → (address : Address) → knownOf (ascii name) ≡ address
-      → ((n : ℕ) (field : ℕ → List ℕ) → addressed address n field ≡ aloneOf (readBy S.Refused row make n field)) → Maker name row make
+      → ((field : ℕ → List ℕ) → addressed address (row .width) field ≡ aloneOf (readBy S.Refused row make (row .width) field))
+      → Maker name row make
   maker clean some address known leads =
       record {
         fits = short;
         read-write = λ r good.
             line-back S.Refused row l make aloneOf (ascii name) five clean some
-            (λ n field. ap (λ (x : Address). addressed x n field) known ∙ leads n field) r good (short r good);
+            (λ field. ap (λ (x : Address). addressed x (row .width) field) known ∙ leads field) r good (short r good);
         write-read = read-in-range S.Refused row l make;
       }

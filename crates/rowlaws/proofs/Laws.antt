@@ -13,7 +13,7 @@ use borrow.Author.Tests.{eqb-true, eqb-false}
 use Rattle.records.specs.Wrong.{nearOf}
 use Rattle.texts.specs.Texts.{unitField}
 use Rattle.trips.proofs.Clean.{CleanAll, clean-all-append}
-use Rattle.trips.proofs.CleanTexts.{total}
+use Rattle.trips.proofs.CleanTexts.{total, total-append}
 use Rattle.trips.proofs.FieldTexts.{field-unit, long-unit}
 use Rattle.trips.proofs.RangedNumbers.{unit-short}
 use Rattle.trips.proofs.Values.{unit-back}
@@ -117,10 +117,6 @@ bytes-both field n (suc a) b =
     let i : bytes field (n + 1) (a + b) ≡ bytes field (n + 1) a + bytes field (n + suc a) b =
     bytes-both field (n + 1) a b ∙ ap (λ (k : ℕ). bytes field (n + 1) a + bytes field k b) e in
     ap (bytes field n) s ∙ omega (arith, i)
-
-total-append : (s t : List (List ℕ)) → total (s ++ t) ≡ total s + total t
-total-append [] t = sym (zero-add (total t))
-total-append (f ∷ s) t = omega (arith, total-append s t)
 
 -- A form of one field, by what the field reads as.
 abbrev pub ofOne : {G X : Type 0} → ℕ → (List ℕ → G) → (G → ℕ) → (G → X) → (X → ℕ) → (X → List ℕ) → Form G X

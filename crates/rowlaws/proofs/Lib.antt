@@ -4,6 +4,7 @@ pub mod SeveralLaws
 pub mod NeededLaws
 pub mod Trips
 pub mod KindLaws
+pub mod SameLaws
 pub mod PlaceLaws
 pub mod PlaceRows
 pub mod PlaceKind

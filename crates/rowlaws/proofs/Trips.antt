@@ -47,7 +47,7 @@ module _ {A G R : Type 0} (refuse : ℕ → ℕ → A) (row : Row G R) (l : Lawf
 
   -- So does its line, where the address leads to the row.
   pub line-back : (as-read : A → Reading) (a : List ℕ) → length a ≡ 5 → Clean a → 1 ≤ row .width
-      → ((n : ℕ) (field : ℕ → List ℕ) → addressed (knownOf a) n field ≡ as-read (readBy refuse row make n field))
+      → ((field : ℕ → List ℕ) → addressed (knownOf a) (row .width) field ≡ as-read (readBy refuse row make (row .width) field))
       → (r : R) → faultBy row r ≡ 0 → length (joinFields a (fieldsFor row r)) ≤ 76
       → readLine (asLine (joinFields a (fieldsFor row r))) ≡ as-read (make r)
   line-back as-read a five ca some leads r e h = go (fieldsFor row r) refl
@@ -57,11 +57,14 @@ module _ {A G R : Type 0} (refuse : ℕ → ℕ → A) (row : Row G R) (l : Lawf
       go (f ∷ fs) q =
           let clean = subst CleanAll q (clean-fields r e) in
           let fits = subst (λ (x : List (List ℕ)). length (joinFields a x) ≤ 76) q h in
+          let many : length (f ∷ fs) ≡ row .width = ap length (sym q) ∙ as-many r in
+          let own : ℕ → List ℕ = λ k. getD (a ∷ f ∷ fs) k [] in
           let reads : List (List ℕ) → A = λ x. readBy refuse row make (length x) (λ k. getD (a ∷ x) k []) in
           ap (λ (x : List (List ℕ)). readLine (asLine (joinFields a x))) q
           ∙ read-back a f fs five ca clean fits
-          ∙ leads (length (f ∷ fs)) (λ (k : ℕ). getD (a ∷ f ∷ fs) k [])
-          ∙ ap as-read (ap reads (sym q) ∙ fields-back a r e)
+          ∙ ap (λ (n : ℕ). addressed (knownOf a) n own) many
+          ∙ leads own
+          ∙ ap as-read (ap (λ (n : ℕ). readBy refuse row make n own) (sym many) ∙ ap reads (sym q) ∙ fields-back a r e)
 
   -- Whatever holds of refusals and of records in range holds of what is read.
   module _ (n : ℕ) (field : ℕ → List ℕ) (P : A → Type 0) (refused : (no at : ℕ) → P (refuse no at)) where

@@ -1,10 +1,10 @@
 -- The text of each value is clean, and no longer than its form allows.
 use Prim.Native.Nat.{ℕ, suc, _+_, _/_, _%_, _≤_, _<_}
 use mathlib.Core.Path.{_≡_, sym, ap, _∙_, subst}
-use mathlib.Core.List.{List, [], _∷_}
+use mathlib.Core.List.{List, [], _∷_, _++_}
 use mathlib.Core.Bool.{Bool, true, false, cond}
 use native.Mathlib.Omega.{arith}
-use native.Mathlib.Nat.{add-zero}
+use native.Mathlib.Nat.{add-zero, zero-add}
 use lib.Dec.{eqb, ltb, lit<, lit≤}
 use lib.IntN.{ℤ, pos, negsuc, natAbs}
 use lib.ListN.{length, length-append}
@@ -90,6 +90,10 @@ clean-zone z =
 abbrev pub total : List (List ℕ) → ℕ
 total [] = 0
 total (f ∷ fs) = suc (length f + total fs)
+
+pub total-append : (s t : List (List ℕ)) → total (s ++ t) ≡ total s + total t
+total-append [] t = sym (zero-add (total t))
+total-append (f ∷ s) t = let e = total-append s t in omega (arith, e)
 
 pub joined-length : (f : List ℕ) (fs : List (List ℕ)) → length (joinFields f fs) ≡ length f + total fs
 unfolding joinFields

@@ -46,7 +46,7 @@ unfolding pirprRow
 pirpr =
     maker "PIRPR" pirprRow S.Pr lawful-pirpr refl (lit≤ tt)
     ((lit< tt, lit< tt), ((lit< tt, lit< tt), ((lit< tt, lit< tt), ((lit< tt, lit< tt), ((lit< tt, lit< tt), tt))))) (lit≤ tt) (A.Maker P.Pr)
-    known-pirpr (λ n field. refl)
+    known-pirpr (λ field. refl)
 
 pub lawful-pirtr : Lawful pirtrRow
 unfolding pirtrRow
@@ -60,7 +60,7 @@ unfolding pirtrRow
 pirtr =
     maker "PIRTR" pirtrRow S.Tr lawful-pirtr refl (lit≤ tt)
     ((lit< tt, lit< tt), ((lit< tt, lit< tt), ((lit< tt, lit< tt), ((lit< tt, lit< tt), ((lit< tt, lit< tt), tt))))) (lit≤ tt) (A.Maker P.Tr)
-    known-pirtr (λ n field. refl)
+    known-pirtr (λ field. refl)
 
 pub lawful-pirsr : Lawful pirsrRow
 unfolding pirsrRow
@@ -74,7 +74,7 @@ unfolding pirsrRow
 pirsr =
     maker "PIRSR" pirsrRow S.Sr lawful-pirsr refl (lit≤ tt)
     ((lit< tt, lit< tt), ((lit< tt, lit< tt), ((lit< tt, lit< tt), ((lit< tt, lit< tt), ((lit< tt, lit< tt), tt))))) (lit≤ tt) (A.Maker P.Sr)
-    known-pirsr (λ n field. refl)
+    known-pirsr (λ field. refl)
 
 pub lawful-pirer : Lawful pirerRow
 unfolding pirerRow
@@ -85,7 +85,7 @@ unfolding pirerRow
 pirer =
     maker "PIRER" pirerRow (λ v. S.Er) lawful-pirer refl (lit≤ tt)
     ((lit< tt, lit< tt), ((lit< tt, lit< tt), ((lit< tt, lit< tt), ((lit< tt, lit< tt), ((lit< tt, lit< tt), tt))))) (lit≤ tt) (A.Maker P.Er)
-    known-pirer (λ n field. refl)
+    known-pirer (λ field. refl)
 
 pub lawful-pirpa : Lawful pirpaRow
 unfolding pirpaRow
@@ -101,7 +101,7 @@ unfolding pirpaRow
 pirpa =
     maker "PIRPA" pirpaRow S.Pa lawful-pirpa refl (lit≤ tt)
     ((lit< tt, lit< tt), ((lit< tt, lit< tt), ((lit< tt, lit< tt), ((lit< tt, lit< tt), ((lit< tt, lit< tt), tt))))) (lit≤ tt) (A.Maker P.Pa)
-    known-pirpa (λ n field. refl)
+    known-pirpa (λ field. refl)
 
 pub lawful-pirta : Lawful pirtaRow
 unfolding pirtaRow
@@ -114,7 +114,7 @@ unfolding pirtaRow
 pirta =
     maker "PIRTA" pirtaRow S.Ta lawful-pirta refl (lit≤ tt)
     ((lit< tt, lit< tt), ((lit< tt, lit< tt), ((lit< tt, lit< tt), ((lit< tt, lit< tt), ((lit< tt, lit< tt), tt))))) (lit≤ tt) (A.Maker P.Ta)
-    known-pirta (λ n field. refl)
+    known-pirta (λ field. refl)
 
 pub lawful-pirsa : Lawful pirsaRow
 unfolding pirsaRow
@@ -128,7 +128,7 @@ unfolding pirsaRow
 pirsa =
     maker "PIRSA" pirsaRow S.Sa lawful-pirsa refl (lit≤ tt)
     ((lit< tt, lit< tt), ((lit< tt, lit< tt), ((lit< tt, lit< tt), ((lit< tt, lit< tt), ((lit< tt, lit< tt), tt))))) (lit≤ tt) (A.Maker P.Sa)
-    known-pirsa (λ n field. refl)
+    known-pirsa (λ field. refl)
 
 pub lawful-pirea : Lawful pireaRow
 unfolding pireaRow
@@ -141,7 +141,7 @@ unfolding pireaRow
 pirea =
     maker "PIREA" pireaRow S.Ea lawful-pirea refl (lit≤ tt)
     ((lit< tt, lit< tt), ((lit< tt, lit< tt), ((lit< tt, lit< tt), ((lit< tt, lit< tt), ((lit< tt, lit< tt), tt))))) (lit≤ tt) (A.Maker P.Ea)
-    known-pirea (λ n field. refl)
+    known-pirea (λ field. refl)
 
 -- The only PIRER there is.
 pub pirer-good : faultBy pirerRow tt ≡ 0

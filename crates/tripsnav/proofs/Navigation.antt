@@ -20,7 +20,6 @@ use Rattle.navigation.specs.Zda.{zdaParts, zdaRow}
 use Rattle.writenav.specs.Gll.{gllBody, gllWrong}
 use Rattle.writenav.specs.Vtg.{vtgBody, vtgWrong}
 use Rattle.writenav.specs.Zda.{zdaBody, zdaWrong}
-use Rattle.trips.proofs.Clean.{Clean}
 use Rattle.trips.proofs.Known.{known-gga, known-gll, known-rmc, known-vtg, known-zda}
 use Rattle.rowlaws.proofs.Laws.{_⊵_, Tight, tight-made, tight-one}
 use Rattle.rowlaws.proofs.FormLaws.{lawful-course, lawful-ddmmyy, lawful-exact, lawful-fixed, lawful-knots, lawful-mode, lawful-number}
@@ -44,7 +43,7 @@ pub gga : Standard S.Refused aloneOf "GGA" ggaRow S.Gga
 unfolding ggaRow
 gga =
     standard S.Refused aloneOf "GGA" ggaRow S.Gga tight-gga refl ((lit< tt, lit< tt), ((lit< tt, lit< tt), ((lit< tt, lit< tt), tt)))
-    (lit≤ tt) (λ t. A.Standard t K.Gga) known-gga (λ t n field. refl)
+    (lit≤ tt) (λ t. A.Standard t K.Gga) known-gga (λ t field. refl)
 
 pub tight-gll : Tight gllRow
 unfolding gllRow
@@ -57,7 +56,7 @@ pub gll : Standard S.Refused aloneOf "GLL" gllRow S.Gll
 unfolding gllRow
 gll =
     standard S.Refused aloneOf "GLL" gllRow S.Gll tight-gll refl ((lit< tt, lit< tt), ((lit< tt, lit< tt), ((lit< tt, lit< tt), tt)))
-    (lit≤ tt) (λ t. A.Standard t K.Gll) known-gll (λ t n field. refl)
+    (lit≤ tt) (λ t. A.Standard t K.Gll) known-gll (λ t field. refl)
 
 pub gll-fits : (t : Talker) (r : Gll) → gllWrong r ≡ 0 → length (gllBody t r) ≤ 76
 unfolding gllRow
@@ -75,7 +74,7 @@ pub rmc : Standard S.Refused aloneOf "RMC" rmcRow S.Rmc
 unfolding rmcRow
 rmc =
     standard S.Refused aloneOf "RMC" rmcRow S.Rmc tight-rmc refl ((lit< tt, lit< tt), ((lit< tt, lit< tt), ((lit< tt, lit< tt), tt)))
-    (lit≤ tt) (λ t. A.Standard t K.Rmc) known-rmc (λ t n field. refl)
+    (lit≤ tt) (λ t. A.Standard t K.Rmc) known-rmc (λ t field. refl)
 
 pub tight-vtg : Tight vtgRow
 unfolding vtgRow
@@ -87,7 +86,7 @@ pub vtg : Standard S.Refused aloneOf "VTG" vtgRow S.Vtg
 unfolding vtgRow
 vtg =
     standard S.Refused aloneOf "VTG" vtgRow S.Vtg tight-vtg refl ((lit< tt, lit< tt), ((lit< tt, lit< tt), ((lit< tt, lit< tt), tt)))
-    (lit≤ tt) (λ t. A.Standard t K.Vtg) known-vtg (λ t n field. refl)
+    (lit≤ tt) (λ t. A.Standard t K.Vtg) known-vtg (λ t field. refl)
 
 pub vtg-fits : (t : Talker) (r : Vtg) → vtgWrong r ≡ 0 → length (vtgBody t r) ≤ 76
 unfolding vtgRow
@@ -104,7 +103,7 @@ pub zda : Standard S.Refused aloneOf "ZDA" zdaRow S.Zda
 unfolding zdaRow
 zda =
     standard S.Refused aloneOf "ZDA" zdaRow S.Zda tight-zda refl ((lit< tt, lit< tt), ((lit< tt, lit< tt), ((lit< tt, lit< tt), tt)))
-    (lit≤ tt) (λ t. A.Standard t K.Zda) known-zda (λ t n field. refl)
+    (lit≤ tt) (λ t. A.Standard t K.Zda) known-zda (λ t field. refl)
 
 pub zda-fits : (t : Talker) (r : Zda) → zdaWrong r ≡ 0 → length (zdaBody t r) ≤ 76
 unfolding zdaRow

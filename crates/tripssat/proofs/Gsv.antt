@@ -1,45 +1,49 @@
--- GSV read, written and read again: for each number of entries, the fields are those of so many entries, each entry is read back, and the
--- places after them are blank before and after.
+-- GSV there and back. An entry is a form, lawful as the others are, and so is the row of so many entries; what the writer looks at, entry by
+-- entry, is what the row does.
 use Prim.Native.Nat.{ℕ, zero, suc, _+_, _≤_, _<_}
-use lib.Dec.{eqb, ltb, lit<, lit≤}
-use lib.ListN.{getD, length}
-use borrow.Author.Tests.{eqb-true, le-ltb, ltb-false}
-use mathlib.Core.Bool.{Bool, true, false, not, _&&_, _||_}
-use mathlib.Core.List.{List, [], _++_, _∷_}
+use mathlib.Core.Bool.{Bool, true, false, cond, not, _&&_, _||_}
+use mathlib.Core.List.{List, [], _∷_, _++_}
 use mathlib.Core.Path.{_∙_, _≡_, ap, refl, subst, sym}
 use native.Mathlib.Omega.{arith}
-use native.Mathlib.Nat.{zero-add}
+use lib.Dec.{eqb, ltb, lit<, lit≤}
+use lib.ListN.{length}
+use borrow.Author.Tests.{eq-eqb, eqb-true, eqb-false, le-ltb, ltb-false, ne-eqb}
 use Rattle.address.specs.declared.Address.{Address}
+use Rattle.address.specs.declared.Address.the-variants as A
+use Rattle.address.specs.declared.Kind.the-variants as K
 use Rattle.address.specs.declared.Talker.{Talker}
+use Rattle.address.specs.Address.{knownOf}
 use Rattle.digits.specs.Ascii.{ascii}
-use Rattle.digits.specs.Decimal.{printFixed}
-use Rattle.digits.proofs.Bools.{and-left, and-right, true-false}
+use Rattle.digits.proofs.Bools.{and-both, and-left, and-right, true-false}
 use Rattle.digits.proofs.DecimalLaws.{length-fixed}
-use Rattle.fields.specs.Fields.{joinFields}
 use Rattle.line.specs.Line.{asLine}
-use Rattle.satellites.specs.declared.gsv.GotEntry.{GotEntry}
-use Rattle.satellites.specs.View.{entriesOf, entryAt, entryForm, entryFrom, firstOf, gsvFrom, gsvOf, gsvWith}
 use Rattle.reading.specs.Lines.{addressed, readLine}
-use Rattle.records.specs.Answers.{answeredBeside}
-use Rattle.records.specs.Blank.{blankEntry, blankGsa}
-use Rattle.records.specs.Wrong.{after, firstWrong, nearOf}
-use Rattle.ranges.specs.Ranges.{outside}
+use Rattle.records.specs.Blank.{blankEntry, blankGsa, isBlank, isMissing}
+use Rattle.records.specs.Wrong.{After, nearOf}
 use Rattle.records.specs.declared.Entry.{Entry}
 use Rattle.records.specs.declared.Gsv.{Gsv}
 use Rattle.records.specs.declared.Reading.{Reading}
-use Rattle.records.specs.declared.values.Maybe.{Maybe}
-use Rattle.sealing.specs.Body.{talkerText}
-use Rattle.sealing.specs.Written.{pick, refused, wrote}
-use Rattle.texts.specs.Texts.{maybeText}
-use Rattle.trips.proofs.Back.{read-back}
-use Rattle.trips.proofs.Clean.{CleanAll, clean-all-append, clean-fixed}
-use Rattle.trips.proofs.CleanTexts.{joined-length, total}
-use Rattle.trips.proofs.FieldTexts.{field-fixed, long-fixed}
-use Rattle.trips.proofs.Known.{Zero, address-clean, address-five, all-zero, known-gsv}
-use Rattle.trips.proofs.Values.{exact-back, fixed-back, theGot}
-use Rattle.writesat.specs.Gsv.{entryAfters, entryFields, entryOf, gsvBody, gsvFault, gsvFields, gsvWrong, restBlank, used}
-use Rattle.records.specs.Blank.{isBlank, isMissing}
 use Rattle.records.specs.declared.Sentence.the-variants as S
+use Rattle.records.specs.declared.values.Maybe.{Maybe}
+use Rattle.forms.specs.Got.{pick}
+use Rattle.kinds.specs.Kinds.{exactForm, fixedForm}
+use Rattle.ranges.specs.Ranges.{outside}
+use Rattle.row.specs.Row.{one}
+use Rattle.row.specs.Kind.{answerBy, faultBy, fieldsFor, readBy}
+use Rattle.satellites.specs.declared.gsv.GotEntry.{GotEntry}
+use Rattle.satellites.specs.View.{entriesOf, entry, entryAt, entryFrom, entryIf, firstOf, gsvBeside, gsvMade, gsvOf, gsvRow, gsvWith, noEntry, refused}
+use Rattle.sealing.specs.Body.{talkerText}
+use Rattle.sealing.specs.Written as W
+use Rattle.trips.proofs.Clean.{Clean, clean-fixed}
+use Rattle.trips.proofs.CleanTexts.{joined-length, total, total-append}
+use Rattle.trips.proofs.FieldTexts.{field-fixed, long-fixed}
+use Rattle.trips.proofs.Known.{Zero, address-clean, address-five, all-zero, known-gsv, zero-all}
+use Rattle.trips.proofs.Ranged.{exact-in, fixed-in}
+use Rattle.trips.proofs.Values.{exact-back, fixed-back}
+use Rattle.writesat.specs.Gsv.{entryAfters, entryFields, entryOf, gsvBody, gsvFault, gsvFields, gsvValues, gsvWrong, restBlank, used}
+use Rattle.rowlaws.proofs.Laws.{_⊳_, Begins, Lawful, LawfulForm, lawful-one, lawful-onlyIf, near-zero}
+use Rattle.rowlaws.proofs.FormLaws.{lawful-exact}
+use Rattle.rowlaws.proofs.Trips.{line-back, read-in-range}
 use Rattle.tripssat.proofs.Lists.{all-four}
 
 -- What a reading of a GSV sentence is.
@@ -57,37 +61,86 @@ unfolding gsvFault
 good-is r e = go (ltb 4 (r .count)) (eqb (gsvWrong r) 0) (restBlank r) refl refl refl e
   where
     go : (a b c : Bool) → ltb 4 (r .count) ≡ a → eqb (gsvWrong r) 0 ≡ b → restBlank r ≡ c
-        → pick a (refused 5 0 0) (pick b (pick c (wrote 0) (refused 5 0 0)) (refused 5 1 (gsvWrong r))) .no ≡ 0 → Good r
+        → W.pick a (W.refused 5 0 0) (W.pick b (W.pick c (W.wrote 0) (W.refused 5 0 0)) (W.refused 5 1 (gsvWrong r))) .no ≡ 0 → Good r
     go true b c p q s i = let z : ⊥ = omega arith in absurd z
     go false false c p q s i = let z : ⊥ = omega arith in absurd z
     go false true false p q s i = let z : ⊥ = omega arith in absurd z
     go false true true p q s i = record { few = ltb-false 4 (r .count) p; values = eqb-true (gsvWrong r) 0 q; blank = s }
 
--- A used entry is read back; four good values make it.
-abbrev theEntry : Entry → GotEntry
-theEntry e = record { wrong = 0; entry = e }
+pub fault-none : (r : Gsv) → Good r → gsvFault r ≡ W.wrote 0
+unfolding gsvFault
+fault-none r g = rw (le-ltb 4 (r .count) (g .few), g .values, g .blank)
 
-entry-made : (e : Entry)
-    → entryFrom (theGot true (e .number)) (theGot (e .elevation .there) (e .elevation .value)) (theGot (e .azimuth .there) (e .azimuth .value)) (theGot (e .signal .there) (e .signal .value))
-    ≡ theEntry e
+-- Four fields of which none is wrong, and back.
+pub first-none : (a b c d : ℕ) → firstOf a b c d ≡ 0 → (a ≡ 0) × ((b ≡ 0) × ((c ≡ 0) × (d ≡ 0)))
+unfolding firstOf
+first-none a b c d e = go (eqb a 0) (eqb b 0) (eqb c 0) (eqb d 0) refl refl refl refl e
+  where
+    go : (p q r s : Bool) → eqb a 0 ≡ p → eqb b 0 ≡ q → eqb c 0 ≡ r → eqb d 0 ≡ s → _≡_ {A = ℕ} (cond p (cond q (cond r (cond s 0 4) 3) 2) 1) 0
+        → (a ≡ 0) × ((b ≡ 0) × ((c ≡ 0) × (d ≡ 0)))
+    go true true true true p q r s i = (eqb-true a 0 p, (eqb-true b 0 q, (eqb-true c 0 r, eqb-true d 0 s)))
+    go true true true false p q r s i = let z : ⊥ = omega (arith, i) in absurd z
+    go true true false t p q r s i = let z : ⊥ = omega (arith, i) in absurd z
+    go true false u t p q r s i = let z : ⊥ = omega (arith, i) in absurd z
+    go false v u t p q r s i = let z : ⊥ = omega (arith, i) in absurd z
+
+none-first : (a b c d : ℕ) → a ≡ 0 → b ≡ 0 → c ≡ 0 → d ≡ 0 → firstOf a b c d ≡ 0
+unfolding firstOf
+none-first a b c d p q r s = rw (p, q, r, s)
+
+-- An entry is lawful: four good values make it, and it is made of four good values.
+entry-back : (e : Entry) → entry .fault e ≡ 0 → (field : ℕ → List ℕ) → Begins field 0 4 (entry .text e)
+    → entry .got field ≡ record { wrong = 0; entry = e }
 unfolding entryFrom entryAt firstOf
-entry-made e = refl
-
-entry-back : (n : ℕ) (e : Entry) → Zero (entryAfters true n e)
-    → entryForm true (printFixed 2 (e .number)) (maybeText (printFixed 2) (e .elevation)) (maybeText (printFixed 3) (e .azimuth)) (maybeText (printFixed 2) (e .signal)) ≡ theEntry e
-unfolding entryForm
-entry-back n e z =
+entry-back e f field b =
+    let z = first-none _ _ _ _ f in
     rw (
+      b 0 (lit< tt),
+      b 1 (lit< tt),
+      b 2 (lit< tt),
+      b 3 (lit< tt),
       exact-back 2 1 99 (lit≤ tt) (lit≤ tt) (lit< tt) (e .number) (z .0),
       fixed-back 2 0 90 (lit≤ tt) (lit≤ tt) (lit< tt) (e .elevation .there) (e .elevation .value) (z .1 .0),
       fixed-back 3 0 359 (lit≤ tt) (lit≤ tt) (lit< tt) (e .azimuth .there) (e .azimuth .value) (z .1 .1 .0),
-      fixed-back 2 0 99 (lit≤ tt) (lit≤ tt) (lit< tt) (e .signal .there) (e .signal .value) (z .1 .1 .1 .0),
+      fixed-back 2 0 99 (lit≤ tt) (lit≤ tt) (lit< tt) (e .signal .there) (e .signal .value) (z .1 .1 .1),
     )
-    (entry-made e)
 
-entry-none : entryForm false [] [] [] [] ≡ theEntry blankEntry
-unfolding entryForm
-entry-none = refl
+module _ (field : ℕ → List ℕ) where
+  abbrev wrong : ℕ
+  wrong =
+      firstOf (exactForm 2 1 99 (field 1) .wrong) (fixedForm 2 0 90 (field 2) .wrong) (fixedForm 3 0 359 (field 3) .wrong)
+      (fixedForm 2 0 99 (field 4) .wrong)
+
+  abbrev at : ℕ → GotEntry
+  at w = entryAt w (exactForm 2 1 99 (field 1)) (fixedForm 2 0 90 (field 2)) (fixedForm 3 0 359 (field 3)) (fixedForm 2 0 99 (field 4))
+
+  sound-at : (w : ℕ) → wrong ≡ w → at w .wrong ≡ 0 → entry .fault (at w .entry) ≡ 0
+  unfolding entryAt
+  sound-at zero q e =
+      let z = first-none _ _ _ _ q in
+      none-first _ _ _ _ (exact-in 2 1 99 (field 1) (z .0)) (fixed-in 2 0 90 (field 2) (z .1 .0)) (fixed-in 3 0 359 (field 3) (z .1 .1 .0))
+      (fixed-in 2 0 99 (field 4) (z .1 .1 .1))
+  sound-at (suc w) q e =
+      let f : suc w ≡ 0 = rw (ne-eqb (suc w) 0 (λ g. omega arith)) at e in
+      let i : ⊥ = omega (arith, f) in
+      absurd i
+
+  entry-sound : entry .wrong (entry .got field) ≡ 0 → entry .fault (entry .value (entry .got field)) ≡ 0
+  unfolding entryFrom
+  entry-sound e = sound-at wrong refl e
+
+lawful-entry : LawfulForm entry
+lawful-entry =
+    record {
+      back = λ e f field b.
+          let q = entry-back e f field b in
+          (ap (λ (g : GotEntry). g .wrong) q, ap (λ (g : GotEntry). g .entry) q);
+      sound = entry-sound;
+      count = λ e. refl;
+      clean = λ e f. (clean-fixed 2 (e .number), (field-fixed 2 (e .elevation), (field-fixed 3 (e .azimuth), (field-fixed 2 (e .signal), tt))));
+      long = λ e f.
+          omega (arith, length-fixed 2 (e .number), long-fixed 2 (e .elevation), long-fixed 3 (e .azimuth), long-fixed 2 (e .signal));
+    }
 
 -- A blank entry is the blank entry.
 missing-is : (m : Maybe) → isMissing m ≡ true → m ≡ record { there = false; value = 0 }
@@ -111,242 +164,181 @@ blank-is e b =
     let w = missing-is (e .signal) (and-right (isMissing (e .azimuth)) _ b2) in
     sym (made (e .number) (e .elevation) (e .azimuth) (e .signal) n x y w)
   where
-    made : (n : ℕ) (a b c : Maybe) → n ≡ 0 → a ≡ record { there = false; value = 0 } → b ≡ record { there = false; value = 0 } → c ≡ record { there = false; value = 0 }
-        → blankEntry ≡ record { number = n; elevation = a; azimuth = b; signal = c }
+    made : (n : ℕ) (a b c : Maybe) → n ≡ 0 → a ≡ record { there = false; value = 0 } → b ≡ record { there = false; value = 0 }
+        → c ≡ record { there = false; value = 0 } → blankEntry ≡ record { number = n; elevation = a; azimuth = b; signal = c }
     made n a b c p q s u = rw (p, q, s, u)
 
-blank-got : (e : Entry) → isBlank e ≡ true → theEntry blankEntry ≡ theEntry e
-blank-got e b = ap theEntry (sym (blank-is e b))
+blank-told : (e : Entry) → _≡_ {A = ℕ} (cond (isBlank e) 0 1) 0 → isBlank e ≡ true
+blank-told e q = go (isBlank e) q
+  where
+    go : (b : Bool) → _≡_ {A = ℕ} (cond b 0 1) 0 → b ≡ true
+    go true i = refl
+    go false i = let z : ⊥ = omega (arith, i) in absurd z
 
--- Each unused place is blank.
-module _ (r : Gsv) (b : restBlank r ≡ true) where
-  unused : (u x : Bool) → (u || x) ≡ true → u ≡ false → x ≡ true
-  unused true x e f = absurd (true-false refl f)
-  unused false x e f = e
+blank-good : _≡_ {A = ℕ} (cond (isBlank blankEntry) 0 1) 0
+unfolding isBlank
+blank-good = refl
 
-  rest-one : (used r 1 || isBlank (entryOf r 1)) && ((used r 2 || isBlank (entryOf r 2)) && (used r 3 || isBlank (entryOf r 3))) ≡ true
-  unfolding restBlank
-  rest-one = and-right (used r 0 || isBlank (entryOf r 0)) _ b
+-- An entry that is used or not, and the row of so many.
+pub lawful-entryIf : (on : Bool) → LawfulForm (entryIf on)
+lawful-entryIf on =
+    lawful-onlyIf (noEntry 0) (λ e. cond (isBlank e) 0 1) entry refl (λ e q. sym (blank-is e (blank-told e q))) blank-good lawful-entry on
 
-  rest-two : (used r 2 || isBlank (entryOf r 2)) && (used r 3 || isBlank (entryOf r 3)) ≡ true
-  rest-two = and-right (used r 1 || isBlank (entryOf r 1)) _ rest-one
+pub lawful-gsv : (count : ℕ) → Lawful (gsvRow count)
+unfolding gsvRow
+lawful-gsv count =
+    let digit = lawful-one (lawful-exact 1 1 9 (lit≤ tt) (lit≤ tt) (lit< tt)) in
+    let entry-of : (k : ℕ) → Lawful (one (entryIf (ltb k count))) = λ k. lawful-one (lawful-entryIf (ltb k count)) in
+    digit ⊳ digit ⊳ lawful-one (lawful-exact 2 0 99 (lit≤ tt) (lit≤ tt) (lit< tt)) ⊳ entry-of 0 ⊳ entry-of 1 ⊳ entry-of 2 ⊳ entry-of 3
 
-  blank-0 : used r 0 ≡ false → theEntry blankEntry ≡ theEntry (entryOf r 0)
-  unfolding restBlank
-  blank-0 f = blank-got (entryOf r 0) (unused (used r 0) (isBlank (entryOf r 0)) (and-left _ _ b) f)
+-- What the writer looks at of an entry, used or not, is what its form does.
+to-form : (on : Bool) (n : ℕ) (e : Entry) → Zero (entryAfters on n e) → (on || isBlank e) ≡ true → entryIf on .fault e ≡ 0
+to-form true n e z b = none-first _ _ _ _ (z .0) (z .1 .0) (z .1 .1 .0) (z .1 .1 .1 .0)
+to-form false n e z b = rw b
 
-  blank-1 : used r 1 ≡ false → theEntry blankEntry ≡ theEntry (entryOf r 1)
-  blank-1 f = blank-got (entryOf r 1) (unused (used r 1) (isBlank (entryOf r 1)) (and-left _ _ rest-one) f)
+from-form : (on : Bool) (n : ℕ) (e : Entry) → entryIf on .fault e ≡ 0 → Zero (entryAfters on n e) × ((on || isBlank e) ≡ true)
+from-form true n e q = let z = first-none _ _ _ _ q in ((z .0, (z .1 .0, (z .1 .1 .0, (z .1 .1 .1, tt)))), refl)
+from-form false n e q = (tt, blank-told e q)
 
-  blank-2 : used r 2 ≡ false → theEntry blankEntry ≡ theEntry (entryOf r 2)
-  blank-2 f = blank-got (entryOf r 2) (unused (used r 2) (isBlank (entryOf r 2)) (and-left _ _ rest-two) f)
+zero-append : (l m : List After) → Zero l → Zero m → Zero (l ++ m)
+zero-append [] m p q = q
+zero-append (a ∷ l) m p q = (p .0, zero-append l m (p .1) q)
 
-  blank-3 : used r 3 ≡ false → theEntry blankEntry ≡ theEntry (entryOf r 3)
-  blank-3 f = blank-got (entryOf r 3) (unused (used r 3) (isBlank (entryOf r 3)) (and-right (used r 2 || isBlank (entryOf r 2)) _ rest-two) f)
+zero-split : (l m : List After) → Zero (l ++ m) → Zero l × Zero m
+zero-split [] m z = (tt, z)
+zero-split (a ∷ l) m z = let s = zero-split l m (z .1) in ((z .0, s .0), s .1)
 
--- The fields of an entry, used or not.
-entry-clean : (u : Bool) (e : Entry) → CleanAll (entryFields u e)
-entry-clean true e = (clean-fixed 2 (e .number), (field-fixed 2 (e .elevation), (field-fixed 3 (e .azimuth), (field-fixed 2 (e .signal), tt))))
-entry-clean false e = tt
+module _ (r : Gsv) where
+  abbrev afters : ℕ → ℕ → List After
+  afters k n = entryAfters (used r k) n (entryOf r k)
 
-entry-long : (u : Bool) (e : Entry) → total (entryFields u e) ≤ 13
-entry-long true e = omega (arith, length-fixed 2 (e .number), long-fixed 2 (e .elevation), long-fixed 3 (e .azimuth), long-fixed 2 (e .signal))
+  abbrev fault : ℕ → ℕ
+  fault k = entryIf (used r k) .fault (entryOf r k)
+
+  row-zero : outside 1 9 (r .lines) ≡ 0 → outside 1 9 (r .line) ≡ 0 → outside 0 99 (r .satellites) ≡ 0 → fault 0 ≡ 0 → fault 1 ≡ 0
+      → fault 2 ≡ 0 → fault 3 ≡ 0 → faultBy (gsvRow (r .count)) (gsvValues r) ≡ 0
+  unfolding faultBy gsvRow nearOf
+  row-zero a b c p q s u = rw (a, b, c, p, q, s, u)
+
+  pub good-row : Good r → faultBy (gsvRow (r .count)) (gsvValues r) ≡ 0
+  unfolding gsvWrong restBlank
+  good-row g =
+      let z = all-zero _ (g .values) in
+      let z0 = zero-split (afters 0 3) _ (z .1 .1 .1) in
+      let z1 = zero-split (afters 1 7) _ (z0 .1) in
+      let z2 = zero-split (afters 2 11) (afters 3 15) (z1 .1) in
+      let b1 = and-right (used r 0 || isBlank (entryOf r 0)) _ (g .blank) in
+      let b2 = and-right (used r 1 || isBlank (entryOf r 1)) _ b1 in
+      let f0 = to-form (used r 0) 3 (entryOf r 0) (z0 .0) (and-left (used r 0 || isBlank (entryOf r 0)) _ (g .blank)) in
+      let f1 = to-form (used r 1) 7 (entryOf r 1) (z1 .0) (and-left (used r 1 || isBlank (entryOf r 1)) _ b1) in
+      let f2 = to-form (used r 2) 11 (entryOf r 2) (z2 .0) (and-left (used r 2 || isBlank (entryOf r 2)) _ b2) in
+      let f3 = to-form (used r 3) 15 (entryOf r 3) (z2 .1) (and-right (used r 2 || isBlank (entryOf r 2)) _ b2) in
+      row-zero (z .0) (z .1 .0) (z .1 .1 .0) f0 f1 f2 f3
+
+  pub row-good : r .count ≤ 4 → faultBy (gsvRow (r .count)) (gsvValues r) ≡ 0 → Good r
+  unfolding faultBy gsvRow gsvWrong restBlank
+  row-good few e =
+      let a = near-zero 0 _ _ e in
+      let b = near-zero 1 _ _ (a .1) in
+      let c = near-zero 2 _ _ (b .1) in
+      let d0 = near-zero 3 _ _ (c .1) in
+      let d1 = near-zero _ _ _ (d0 .1) in
+      let d2 = near-zero _ _ _ (d1 .1) in
+      let d3 = near-zero _ _ _ (d2 .1) in
+      let f0 = from-form (used r 0) 3 (entryOf r 0) (d0 .0) in
+      let f1 = from-form (used r 1) 7 (entryOf r 1) (d1 .0) in
+      let f2 = from-form (used r 2) 11 (entryOf r 2) (d2 .0) in
+      let f3 = from-form (used r 3) 15 (entryOf r 3) (d3 .0) in
+      let entries = zero-append (afters 0 3) _ (f0 .0) (zero-append (afters 1 7) _ (f1 .0) (zero-append (afters 2 11) _ (f2 .0) (f3 .0))) in
+      record {
+        few = few;
+        values = zero-all _ (a .0, (b .0, (c .0, entries)));
+        blank = and-both _ _ (f0 .1) (and-both _ _ (f1 .1) (and-both _ _ (f2 .1) (f3 .1)));
+      }
+
+-- The line of a record never passes 82 bytes.
+entry-long : (on : Bool) (e : Entry) → total (entryFields on e) ≤ 13
+entry-long true e =
+    omega (arith, length-fixed 2 (e .number), long-fixed 2 (e .elevation), long-fixed 3 (e .azimuth), long-fixed 2 (e .signal))
 entry-long false e = omega arith
 
-pub total-append : (fs gs : List (List ℕ)) → total (fs ++ gs) ≡ total fs + total gs
-total-append [] gs = sym (zero-add (total gs))
-total-append (f ∷ fs) gs = let e = total-append fs gs in omega (arith, e)
+pub fits : (t : Talker) (r : Gsv) → length (gsvBody t r) ≤ 76
+unfolding fieldsFor gsvRow
+fits t r =
+    let e : ℕ → List (List ℕ) = λ k. entryFields (used r k) (entryOf r k) in
+    let long : (k : ℕ) → total (entryFields (used r k) (entryOf r k)) ≤ 13 = λ k. entry-long (used r k) (entryOf r k) in
+    let t0 = total-append (e 0) (e 1 ++ (e 2 ++ (e 3 ++ []))) in
+    let t1 = total-append (e 1) (e 2 ++ (e 3 ++ [])) in
+    let t2 = total-append (e 2) (e 3 ++ []) in
+    let t3 = total-append (e 3) [] in
+    let body = joined-length (talkerText t ++ ascii "GSV") (gsvFields r) in
+    omega (
+      arith,
+      body,
+      address-five t (ascii "GSV") refl,
+      length-fixed 1 (r .lines),
+      length-fixed 1 (r .line),
+      length-fixed 2 (r .satellites),
+      t0,
+      t1,
+      t2,
+      t3,
+      long 0,
+      long 1,
+      long 2,
+      long 3,
+    )
 
-module _ (t : Talker) (r : Gsv) where
-  A : List ℕ
-  A = talkerText t ++ ascii "GSV"
+-- The address leads to the row of so many entries.
+leads : (count : ℕ) → count ≤ 4 → (t : Talker) (field : ℕ → List ℕ)
+    → addressed (A.Standard t K.Gsv) (gsvRow count .width) field
+    ≡ readBy refused (gsvRow count) (gsvBeside t count) (gsvRow count .width) field
+unfolding gsvOf gsvWith entriesOf gsvRow readBy
+leads zero h t field = refl
+leads (suc zero) h t field = refl
+leads (suc (suc zero)) h t field = refl
+leads (suc (suc (suc zero))) h t field = refl
+leads (suc (suc (suc (suc zero)))) h t field = refl
+leads (suc (suc (suc (suc (suc count))))) h t field = let z : ⊥ = omega arith in absurd z
 
-  clean : CleanAll (gsvFields r)
-  unfolding gsvFields
-  clean = (
-    clean-fixed 1 (r .lines),
-    (
-      clean-fixed 1 (r .line),
-      (
-        clean-fixed 2 (r .satellites),
-        clean-all-append (entryFields (used r 0) (entryOf r 0)) _ (entry-clean (used r 0) (entryOf r 0))
-            (clean-all-append (entryFields (used r 1) (entryOf r 1)) _ (entry-clean (used r 1) (entryOf r 1))
-            (clean-all-append (entryFields (used r 2) (entryOf r 2)) _ (entry-clean (used r 2) (entryOf r 2))
-            (entry-clean (used r 3) (entryOf r 3)))),
-      ),
-    ),
-  )
+some-width : (count : ℕ) → 1 ≤ gsvRow count .width
+unfolding gsvRow
+some-width count = omega arith
 
-  -- The line of a record never passes 82 bytes.
-  pub fits : length (gsvBody t r) ≤ 76
-  unfolding gsvFields
-  fits =
-      let e0 = entryFields (used r 0) (entryOf r 0) in
-      let e1 = entryFields (used r 1) (entryOf r 1) in
-      let e2 = entryFields (used r 2) (entryOf r 2) in
-      let e3 = entryFields (used r 3) (entryOf r 3) in
-      omega (
-        arith,
-        joined-length (talkerText t ++ ascii "GSV") (gsvFields r),
-        address-five t (ascii "GSV") refl,
-        length-fixed 1 (r .lines),
-        length-fixed 1 (r .line),
-        length-fixed 2 (r .satellites),
-        total-append e0 (e1 ++ (e2 ++ e3)),
-        total-append e1 (e2 ++ e3),
-        total-append e2 e3,
-        entry-long (used r 0) (entryOf r 0),
-        entry-long (used r 1) (entryOf r 1),
-        entry-long (used r 2) (entryOf r 2),
-        entry-long (used r 3) (entryOf r 3),
-      )
+-- What is written is read back as the same record and talker.
+pub read-write : (t : Talker) (r : Gsv) → length (r .entries) ≡ 4 → Good r → readLine (asLine (gsvBody t r)) ≡ theGsv t r
+read-write t r four good =
+    let a = talkerText t ++ ascii "GSV" in
+    let three : Clean (ascii "GSV") = ((lit< tt, lit< tt), ((lit< tt, lit< tt), ((lit< tt, lit< tt), tt))) in
+    let to-row : (field : ℕ → List ℕ) → addressed (knownOf a) (gsvRow (r .count) .width) field
+        ≡ readBy refused (gsvRow (r .count)) (gsvBeside t (r .count)) (gsvRow (r .count) .width) field = λ field.
+        ap (λ (x : Address). addressed x (gsvRow (r .count) .width) field) (known-gsv t) ∙ leads (r .count) (good .few) t field in
+    let again : List Entry → Reading = λ es.
+        theGsv t (record { lines = r .lines; line = r .line; satellites = r .satellites; count = r .count; entries = es }) in
+    line-back refused (gsvRow (r .count)) (lawful-gsv (r .count)) (gsvBeside t (r .count)) (λ x. x) a (address-five t (ascii "GSV") refl)
+    (address-clean t (ascii "GSV") refl three) (some-width (r .count)) to-row (gsvValues r) (good-row r good) (fits t r)
+    ∙ ap again (all-four blankEntry (r .entries) four)
 
-  module _ (four : length (r .entries) ≡ 4) (good : Good r) where
-    off : (k c : ℕ) → r .count ≡ c → c ≤ k → used r k ≡ false
-    off k c q h = le-ltb k (r .count) (omega (arith, q, h))
+-- Whatever holds of refusals and of records without a fault holds of what is read.
+module _ (t : Talker) (field : ℕ → List ℕ) (P : Reading → Type 0) (none : (no at : ℕ) → P (refused no at))
+    (written : (r : Gsv) → length (r .entries) ≡ 4 → Good r → P (theGsv t r)) where
+  by-row : (count : ℕ) → count ≤ 4 → P (answerBy refused (gsvRow count) (gsvBeside t count) (gsvRow count .got field 0))
+  unfolding readBy
+  by-row count few =
+      let row = gsvRow count in
+      let made = read-in-range refused row (lawful-gsv count) (gsvBeside t count) (row .width) field P none
+          (λ v n e. written (gsvMade count v) refl (row-good (gsvMade count v) few e)) in
+      rw (eq-eqb (row .width) (row .width) refl) at made
 
-    -- Good values make the record.
-    made : (c : ℕ) → r .count ≡ c
-        → gsvFrom t c (theGot true (r .lines)) (theGot true (r .line)) (theGot true (r .satellites)) (theEntry (entryOf r 0)) (theEntry (entryOf r 1)) (theEntry (entryOf r 2)) (theEntry (entryOf r 3))
-        ≡ theGsv t r
-    unfolding gsvFrom answeredBeside firstWrong nearOf
-    made c q =
-        ap (λ (x : ℕ). theGsv t (record { lines = r .lines; line = r .line; satellites = r .satellites; count = x; entries = entryOf r 0 ∷ entryOf r 1 ∷ entryOf r 2 ∷ entryOf r 3 ∷ [] })) (sym q)
-        ∙ ap (λ (x : List Entry). theGsv t (record { lines = r .lines; line = r .line; satellites = r .satellites; count = r .count; entries = x })) (all-four blankEntry (r .entries) four)
+  with-read : (count : ℕ) → P (gsvWith t count field)
+  unfolding gsvWith
+  with-read count = go (ltb 4 count) refl
+    where
+      go : (b : Bool) → ltb 4 count ≡ b
+          → P (pick b (refused 4 0) (answerBy refused (gsvRow count) (gsvBeside t count) (gsvRow count .got field 0)))
+      go true q = none 4 0
+      go false q = by-row count (ltb-false 4 count q)
 
-    -- With 0 entries.
-    fields-0 : r .count ≡ 0 → gsvFields r ≡ printFixed 1 (r .lines) ∷ printFixed 1 (r .line) ∷ printFixed 2 (r .satellites) ∷ []
-    unfolding gsvFields
-    fields-0 q = rw q
-
-    values-0 : r .count ≡ 0 → Zero (after 0 (outside 1 9 (r .lines)) ∷ after 1 (outside 1 9 (r .line)) ∷ after 2 (outside 0 99 (r .satellites)) ∷ (entryAfters false 3 (entryOf r 0) ++ (entryAfters false 7 (entryOf r 1) ++ (entryAfters false 11 (entryOf r 2) ++ (entryAfters false 15 (entryOf r 3))))))
-    unfolding gsvWrong
-    values-0 q = all-zero _ (rw q at (good .values))
-
-    blanks-0 : r .count ≡ 0 → gsvFrom t 0 (theGot true (r .lines)) (theGot true (r .line)) (theGot true (r .satellites)) (theEntry blankEntry) (theEntry blankEntry) (theEntry blankEntry) (theEntry blankEntry) ≡ theGsv t r
-    blanks-0 q = ap (λ (x : GotEntry). gsvFrom t 0 (theGot true (r .lines)) (theGot true (r .line)) (theGot true (r .satellites)) x (theEntry blankEntry) (theEntry blankEntry) (theEntry blankEntry)) (blank-0 r (good .blank) (off 0 0 q (lit≤ tt)))
-        ∙ ap (λ (x : GotEntry). gsvFrom t 0 (theGot true (r .lines)) (theGot true (r .line)) (theGot true (r .satellites)) (theEntry (entryOf r 0)) x (theEntry blankEntry) (theEntry blankEntry)) (blank-1 r (good .blank) (off 1 0 q (lit≤ tt)))
-        ∙ ap (λ (x : GotEntry). gsvFrom t 0 (theGot true (r .lines)) (theGot true (r .line)) (theGot true (r .satellites)) (theEntry (entryOf r 0)) (theEntry (entryOf r 1)) x (theEntry blankEntry)) (blank-2 r (good .blank) (off 2 0 q (lit≤ tt)))
-        ∙ ap (λ (x : GotEntry). gsvFrom t 0 (theGot true (r .lines)) (theGot true (r .line)) (theGot true (r .satellites)) (theEntry (entryOf r 0)) (theEntry (entryOf r 1)) (theEntry (entryOf r 2)) x) (blank-3 r (good .blank) (off 3 0 q (lit≤ tt)))
-        ∙ made 0 q
-
-    with-0 : r .count ≡ 0 → readLine (asLine (gsvBody t r)) ≡ theGsv t r
-    unfolding gsvOf gsvWith entriesOf
-    with-0 q =
-        let z = values-0 q in
-        ap (λ (fs : List (List ℕ)). readLine (asLine (joinFields (talkerText t ++ ascii "GSV") fs))) (fields-0 q)
-        ∙ read-back (talkerText t ++ ascii "GSV") (printFixed 1 (r .lines)) (printFixed 1 (r .line) ∷ printFixed 2 (r .satellites) ∷ []) (address-five t (ascii "GSV") refl) (address-clean t (ascii "GSV") refl ((lit< tt, lit< tt), ((lit< tt, lit< tt), ((lit< tt, lit< tt), tt))))
-        (subst (λ (fs : List (List ℕ)). CleanAll fs) (fields-0 q) clean)
-        (subst (λ (fs : List (List ℕ)). length (joinFields (talkerText t ++ ascii "GSV") fs) ≤ 76) (fields-0 q) fits)
-        ∙ ap (λ (x : Address). addressed x 3 (λ (k : ℕ). getD ((talkerText t ++ ascii "GSV") ∷ printFixed 1 (r .lines) ∷ printFixed 1 (r .line) ∷ printFixed 2 (r .satellites) ∷ []) k [])) (known-gsv t)
-        ∙ rw (exact-back 1 1 9 (lit≤ tt) (lit≤ tt) (lit< tt) (r .lines) (z .0), exact-back 1 1 9 (lit≤ tt) (lit≤ tt) (lit< tt) (r .line) (z .1 .0), exact-back 2 0 99 (lit≤ tt) (lit≤ tt) (lit< tt) (r .satellites) (z .1 .1 .0), entry-none) (blanks-0 q)
-
-    -- With 1 entry.
-    fields-1 : r .count ≡ 1 → gsvFields r ≡ printFixed 1 (r .lines) ∷ printFixed 1 (r .line) ∷ printFixed 2 (r .satellites) ∷ printFixed 2 (entryOf r 0 .number) ∷ maybeText (printFixed 2) (entryOf r 0 .elevation) ∷ maybeText (printFixed 3) (entryOf r 0 .azimuth) ∷ maybeText (printFixed 2) (entryOf r 0 .signal) ∷ []
-    unfolding gsvFields
-    fields-1 q = rw q
-
-    values-1 : r .count ≡ 1 → Zero (after 0 (outside 1 9 (r .lines)) ∷ after 1 (outside 1 9 (r .line)) ∷ after 2 (outside 0 99 (r .satellites)) ∷ (entryAfters true 3 (entryOf r 0) ++ (entryAfters false 7 (entryOf r 1) ++ (entryAfters false 11 (entryOf r 2) ++ (entryAfters false 15 (entryOf r 3))))))
-    unfolding gsvWrong
-    values-1 q = all-zero _ (rw q at (good .values))
-
-    blanks-1 : r .count ≡ 1 → gsvFrom t 1 (theGot true (r .lines)) (theGot true (r .line)) (theGot true (r .satellites)) (theEntry (entryOf r 0)) (theEntry blankEntry) (theEntry blankEntry) (theEntry blankEntry) ≡ theGsv t r
-    blanks-1 q = ap (λ (x : GotEntry). gsvFrom t 1 (theGot true (r .lines)) (theGot true (r .line)) (theGot true (r .satellites)) (theEntry (entryOf r 0)) x (theEntry blankEntry) (theEntry blankEntry)) (blank-1 r (good .blank) (off 1 1 q (lit≤ tt)))
-        ∙ ap (λ (x : GotEntry). gsvFrom t 1 (theGot true (r .lines)) (theGot true (r .line)) (theGot true (r .satellites)) (theEntry (entryOf r 0)) (theEntry (entryOf r 1)) x (theEntry blankEntry)) (blank-2 r (good .blank) (off 2 1 q (lit≤ tt)))
-        ∙ ap (λ (x : GotEntry). gsvFrom t 1 (theGot true (r .lines)) (theGot true (r .line)) (theGot true (r .satellites)) (theEntry (entryOf r 0)) (theEntry (entryOf r 1)) (theEntry (entryOf r 2)) x) (blank-3 r (good .blank) (off 3 1 q (lit≤ tt)))
-        ∙ made 1 q
-
-    with-1 : r .count ≡ 1 → readLine (asLine (gsvBody t r)) ≡ theGsv t r
-    unfolding gsvOf gsvWith entriesOf
-    with-1 q =
-        let z = values-1 q in
-        ap (λ (fs : List (List ℕ)). readLine (asLine (joinFields (talkerText t ++ ascii "GSV") fs))) (fields-1 q)
-        ∙ read-back (talkerText t ++ ascii "GSV") (printFixed 1 (r .lines)) (printFixed 1 (r .line) ∷ printFixed 2 (r .satellites) ∷ printFixed 2 (entryOf r 0 .number) ∷ maybeText (printFixed 2) (entryOf r 0 .elevation) ∷ maybeText (printFixed 3) (entryOf r 0 .azimuth) ∷ maybeText (printFixed 2) (entryOf r 0 .signal) ∷ []) (address-five t (ascii "GSV") refl) (address-clean t (ascii "GSV") refl ((lit< tt, lit< tt), ((lit< tt, lit< tt), ((lit< tt, lit< tt), tt))))
-        (subst (λ (fs : List (List ℕ)). CleanAll fs) (fields-1 q) clean)
-        (subst (λ (fs : List (List ℕ)). length (joinFields (talkerText t ++ ascii "GSV") fs) ≤ 76) (fields-1 q) fits)
-        ∙ ap (λ (x : Address). addressed x 7 (λ (k : ℕ). getD ((talkerText t ++ ascii "GSV") ∷ printFixed 1 (r .lines) ∷ printFixed 1 (r .line) ∷ printFixed 2 (r .satellites) ∷ printFixed 2 (entryOf r 0 .number) ∷ maybeText (printFixed 2) (entryOf r 0 .elevation) ∷ maybeText (printFixed 3) (entryOf r 0 .azimuth) ∷ maybeText (printFixed 2) (entryOf r 0 .signal) ∷ []) k [])) (known-gsv t)
-        ∙ rw (exact-back 1 1 9 (lit≤ tt) (lit≤ tt) (lit< tt) (r .lines) (z .0), exact-back 1 1 9 (lit≤ tt) (lit≤ tt) (lit< tt) (r .line) (z .1 .0), exact-back 2 0 99 (lit≤ tt) (lit≤ tt) (lit< tt) (r .satellites) (z .1 .1 .0), entry-back 3 (entryOf r 0) (z .1 .1 .1 .0, (z .1 .1 .1 .1 .0, (z .1 .1 .1 .1 .1 .0, (z .1 .1 .1 .1 .1 .1 .0, tt)))), entry-none) (blanks-1 q)
-
-    -- With 2 entries.
-    fields-2 : r .count ≡ 2 → gsvFields r ≡ printFixed 1 (r .lines) ∷ printFixed 1 (r .line) ∷ printFixed 2 (r .satellites) ∷ printFixed 2 (entryOf r 0 .number) ∷ maybeText (printFixed 2) (entryOf r 0 .elevation) ∷ maybeText (printFixed 3) (entryOf r 0 .azimuth) ∷ maybeText (printFixed 2) (entryOf r 0 .signal) ∷ printFixed 2 (entryOf r 1 .number) ∷ maybeText (printFixed 2) (entryOf r 1 .elevation) ∷ maybeText (printFixed 3) (entryOf r 1 .azimuth) ∷ maybeText (printFixed 2) (entryOf r 1 .signal) ∷ []
-    unfolding gsvFields
-    fields-2 q = rw q
-
-    values-2 : r .count ≡ 2 → Zero (after 0 (outside 1 9 (r .lines)) ∷ after 1 (outside 1 9 (r .line)) ∷ after 2 (outside 0 99 (r .satellites)) ∷ (entryAfters true 3 (entryOf r 0) ++ (entryAfters true 7 (entryOf r 1) ++ (entryAfters false 11 (entryOf r 2) ++ (entryAfters false 15 (entryOf r 3))))))
-    unfolding gsvWrong
-    values-2 q = all-zero _ (rw q at (good .values))
-
-    blanks-2 : r .count ≡ 2 → gsvFrom t 2 (theGot true (r .lines)) (theGot true (r .line)) (theGot true (r .satellites)) (theEntry (entryOf r 0)) (theEntry (entryOf r 1)) (theEntry blankEntry) (theEntry blankEntry) ≡ theGsv t r
-    blanks-2 q = ap (λ (x : GotEntry). gsvFrom t 2 (theGot true (r .lines)) (theGot true (r .line)) (theGot true (r .satellites)) (theEntry (entryOf r 0)) (theEntry (entryOf r 1)) x (theEntry blankEntry)) (blank-2 r (good .blank) (off 2 2 q (lit≤ tt)))
-        ∙ ap (λ (x : GotEntry). gsvFrom t 2 (theGot true (r .lines)) (theGot true (r .line)) (theGot true (r .satellites)) (theEntry (entryOf r 0)) (theEntry (entryOf r 1)) (theEntry (entryOf r 2)) x) (blank-3 r (good .blank) (off 3 2 q (lit≤ tt)))
-        ∙ made 2 q
-
-    with-2 : r .count ≡ 2 → readLine (asLine (gsvBody t r)) ≡ theGsv t r
-    unfolding gsvOf gsvWith entriesOf
-    with-2 q =
-        let z = values-2 q in
-        ap (λ (fs : List (List ℕ)). readLine (asLine (joinFields (talkerText t ++ ascii "GSV") fs))) (fields-2 q)
-        ∙ read-back (talkerText t ++ ascii "GSV") (printFixed 1 (r .lines)) (printFixed 1 (r .line) ∷ printFixed 2 (r .satellites) ∷ printFixed 2 (entryOf r 0 .number) ∷ maybeText (printFixed 2) (entryOf r 0 .elevation) ∷ maybeText (printFixed 3) (entryOf r 0 .azimuth) ∷ maybeText (printFixed 2) (entryOf r 0 .signal) ∷ printFixed 2 (entryOf r 1 .number) ∷ maybeText (printFixed 2) (entryOf r 1 .elevation) ∷ maybeText (printFixed 3) (entryOf r 1 .azimuth) ∷ maybeText (printFixed 2) (entryOf r 1 .signal) ∷ []) (address-five t (ascii "GSV") refl) (address-clean t (ascii "GSV") refl ((lit< tt, lit< tt), ((lit< tt, lit< tt), ((lit< tt, lit< tt), tt))))
-        (subst (λ (fs : List (List ℕ)). CleanAll fs) (fields-2 q) clean)
-        (subst (λ (fs : List (List ℕ)). length (joinFields (talkerText t ++ ascii "GSV") fs) ≤ 76) (fields-2 q) fits)
-        ∙ ap (λ (x : Address). addressed x 11 (λ (k : ℕ). getD ((talkerText t ++ ascii "GSV") ∷ printFixed 1 (r .lines) ∷ printFixed 1 (r .line) ∷ printFixed 2 (r .satellites) ∷ printFixed 2 (entryOf r 0 .number) ∷ maybeText (printFixed 2) (entryOf r 0 .elevation) ∷ maybeText (printFixed 3) (entryOf r 0 .azimuth) ∷ maybeText (printFixed 2) (entryOf r 0 .signal) ∷ printFixed 2 (entryOf r 1 .number) ∷ maybeText (printFixed 2) (entryOf r 1 .elevation) ∷ maybeText (printFixed 3) (entryOf r 1 .azimuth) ∷ maybeText (printFixed 2) (entryOf r 1 .signal) ∷ []) k [])) (known-gsv t)
-        ∙ rw (exact-back 1 1 9 (lit≤ tt) (lit≤ tt) (lit< tt) (r .lines) (z .0), exact-back 1 1 9 (lit≤ tt) (lit≤ tt) (lit< tt) (r .line) (z .1 .0), exact-back 2 0 99 (lit≤ tt) (lit≤ tt) (lit< tt) (r .satellites) (z .1 .1 .0), entry-back 3 (entryOf r 0) (z .1 .1 .1 .0, (z .1 .1 .1 .1 .0, (z .1 .1 .1 .1 .1 .0, (z .1 .1 .1 .1 .1 .1 .0, tt)))), entry-back 7 (entryOf r 1) (z .1 .1 .1 .1 .1 .1 .1 .0, (z .1 .1 .1 .1 .1 .1 .1 .1 .0, (z .1 .1 .1 .1 .1 .1 .1 .1 .1 .0, (z .1 .1 .1 .1 .1 .1 .1 .1 .1 .1 .0, tt)))), entry-none) (blanks-2 q)
-
-    -- With 3 entries.
-    fields-3 : r .count ≡ 3 → gsvFields r ≡ printFixed 1 (r .lines) ∷ printFixed 1 (r .line) ∷ printFixed 2 (r .satellites) ∷ printFixed 2 (entryOf r 0 .number) ∷ maybeText (printFixed 2) (entryOf r 0 .elevation) ∷ maybeText (printFixed 3) (entryOf r 0 .azimuth) ∷ maybeText (printFixed 2) (entryOf r 0 .signal) ∷ printFixed 2 (entryOf r 1 .number) ∷ maybeText (printFixed 2) (entryOf r 1 .elevation) ∷ maybeText (printFixed 3) (entryOf r 1 .azimuth) ∷ maybeText (printFixed 2) (entryOf r 1 .signal) ∷ printFixed 2 (entryOf r 2 .number) ∷ maybeText (printFixed 2) (entryOf r 2 .elevation) ∷ maybeText (printFixed 3) (entryOf r 2 .azimuth) ∷ maybeText (printFixed 2) (entryOf r 2 .signal) ∷ []
-    unfolding gsvFields
-    fields-3 q = rw q
-
-    values-3 : r .count ≡ 3 → Zero (after 0 (outside 1 9 (r .lines)) ∷ after 1 (outside 1 9 (r .line)) ∷ after 2 (outside 0 99 (r .satellites)) ∷ (entryAfters true 3 (entryOf r 0) ++ (entryAfters true 7 (entryOf r 1) ++ (entryAfters true 11 (entryOf r 2) ++ (entryAfters false 15 (entryOf r 3))))))
-    unfolding gsvWrong
-    values-3 q = all-zero _ (rw q at (good .values))
-
-    blanks-3 : r .count ≡ 3 → gsvFrom t 3 (theGot true (r .lines)) (theGot true (r .line)) (theGot true (r .satellites)) (theEntry (entryOf r 0)) (theEntry (entryOf r 1)) (theEntry (entryOf r 2)) (theEntry blankEntry) ≡ theGsv t r
-    blanks-3 q = ap (λ (x : GotEntry). gsvFrom t 3 (theGot true (r .lines)) (theGot true (r .line)) (theGot true (r .satellites)) (theEntry (entryOf r 0)) (theEntry (entryOf r 1)) (theEntry (entryOf r 2)) x) (blank-3 r (good .blank) (off 3 3 q (lit≤ tt)))
-        ∙ made 3 q
-
-    with-3 : r .count ≡ 3 → readLine (asLine (gsvBody t r)) ≡ theGsv t r
-    unfolding gsvOf gsvWith entriesOf
-    with-3 q =
-        let z = values-3 q in
-        ap (λ (fs : List (List ℕ)). readLine (asLine (joinFields (talkerText t ++ ascii "GSV") fs))) (fields-3 q)
-        ∙ read-back (talkerText t ++ ascii "GSV") (printFixed 1 (r .lines)) (printFixed 1 (r .line) ∷ printFixed 2 (r .satellites) ∷ printFixed 2 (entryOf r 0 .number) ∷ maybeText (printFixed 2) (entryOf r 0 .elevation) ∷ maybeText (printFixed 3) (entryOf r 0 .azimuth) ∷ maybeText (printFixed 2) (entryOf r 0 .signal) ∷ printFixed 2 (entryOf r 1 .number) ∷ maybeText (printFixed 2) (entryOf r 1 .elevation) ∷ maybeText (printFixed 3) (entryOf r 1 .azimuth) ∷ maybeText (printFixed 2) (entryOf r 1 .signal) ∷ printFixed 2 (entryOf r 2 .number) ∷ maybeText (printFixed 2) (entryOf r 2 .elevation) ∷ maybeText (printFixed 3) (entryOf r 2 .azimuth) ∷ maybeText (printFixed 2) (entryOf r 2 .signal) ∷ []) (address-five t (ascii "GSV") refl) (address-clean t (ascii "GSV") refl ((lit< tt, lit< tt), ((lit< tt, lit< tt), ((lit< tt, lit< tt), tt))))
-        (subst (λ (fs : List (List ℕ)). CleanAll fs) (fields-3 q) clean)
-        (subst (λ (fs : List (List ℕ)). length (joinFields (talkerText t ++ ascii "GSV") fs) ≤ 76) (fields-3 q) fits)
-        ∙ ap (λ (x : Address). addressed x 15 (λ (k : ℕ). getD ((talkerText t ++ ascii "GSV") ∷ printFixed 1 (r .lines) ∷ printFixed 1 (r .line) ∷ printFixed 2 (r .satellites) ∷ printFixed 2 (entryOf r 0 .number) ∷ maybeText (printFixed 2) (entryOf r 0 .elevation) ∷ maybeText (printFixed 3) (entryOf r 0 .azimuth) ∷ maybeText (printFixed 2) (entryOf r 0 .signal) ∷ printFixed 2 (entryOf r 1 .number) ∷ maybeText (printFixed 2) (entryOf r 1 .elevation) ∷ maybeText (printFixed 3) (entryOf r 1 .azimuth) ∷ maybeText (printFixed 2) (entryOf r 1 .signal) ∷ printFixed 2 (entryOf r 2 .number) ∷ maybeText (printFixed 2) (entryOf r 2 .elevation) ∷ maybeText (printFixed 3) (entryOf r 2 .azimuth) ∷ maybeText (printFixed 2) (entryOf r 2 .signal) ∷ []) k [])) (known-gsv t)
-        ∙ rw (exact-back 1 1 9 (lit≤ tt) (lit≤ tt) (lit< tt) (r .lines) (z .0), exact-back 1 1 9 (lit≤ tt) (lit≤ tt) (lit< tt) (r .line) (z .1 .0), exact-back 2 0 99 (lit≤ tt) (lit≤ tt) (lit< tt) (r .satellites) (z .1 .1 .0), entry-back 3 (entryOf r 0) (z .1 .1 .1 .0, (z .1 .1 .1 .1 .0, (z .1 .1 .1 .1 .1 .0, (z .1 .1 .1 .1 .1 .1 .0, tt)))), entry-back 7 (entryOf r 1) (z .1 .1 .1 .1 .1 .1 .1 .0, (z .1 .1 .1 .1 .1 .1 .1 .1 .0, (z .1 .1 .1 .1 .1 .1 .1 .1 .1 .0, (z .1 .1 .1 .1 .1 .1 .1 .1 .1 .1 .0, tt)))), entry-back 11 (entryOf r 2) (z .1 .1 .1 .1 .1 .1 .1 .1 .1 .1 .1 .0, (z .1 .1 .1 .1 .1 .1 .1 .1 .1 .1 .1 .1 .0, (z .1 .1 .1 .1 .1 .1 .1 .1 .1 .1 .1 .1 .1 .0, (z .1 .1 .1 .1 .1 .1 .1 .1 .1 .1 .1 .1 .1 .1 .0, tt)))), entry-none) (blanks-3 q)
-
-    -- With 4 entries.
-    fields-4 : r .count ≡ 4 → gsvFields r ≡ printFixed 1 (r .lines) ∷ printFixed 1 (r .line) ∷ printFixed 2 (r .satellites) ∷ printFixed 2 (entryOf r 0 .number) ∷ maybeText (printFixed 2) (entryOf r 0 .elevation) ∷ maybeText (printFixed 3) (entryOf r 0 .azimuth) ∷ maybeText (printFixed 2) (entryOf r 0 .signal) ∷ printFixed 2 (entryOf r 1 .number) ∷ maybeText (printFixed 2) (entryOf r 1 .elevation) ∷ maybeText (printFixed 3) (entryOf r 1 .azimuth) ∷ maybeText (printFixed 2) (entryOf r 1 .signal) ∷ printFixed 2 (entryOf r 2 .number) ∷ maybeText (printFixed 2) (entryOf r 2 .elevation) ∷ maybeText (printFixed 3) (entryOf r 2 .azimuth) ∷ maybeText (printFixed 2) (entryOf r 2 .signal) ∷ printFixed 2 (entryOf r 3 .number) ∷ maybeText (printFixed 2) (entryOf r 3 .elevation) ∷ maybeText (printFixed 3) (entryOf r 3 .azimuth) ∷ maybeText (printFixed 2) (entryOf r 3 .signal) ∷ []
-    unfolding gsvFields
-    fields-4 q = rw q
-
-    values-4 : r .count ≡ 4 → Zero (after 0 (outside 1 9 (r .lines)) ∷ after 1 (outside 1 9 (r .line)) ∷ after 2 (outside 0 99 (r .satellites)) ∷ (entryAfters true 3 (entryOf r 0) ++ (entryAfters true 7 (entryOf r 1) ++ (entryAfters true 11 (entryOf r 2) ++ (entryAfters true 15 (entryOf r 3))))))
-    unfolding gsvWrong
-    values-4 q = all-zero _ (rw q at (good .values))
-
-    blanks-4 : r .count ≡ 4 → gsvFrom t 4 (theGot true (r .lines)) (theGot true (r .line)) (theGot true (r .satellites)) (theEntry (entryOf r 0)) (theEntry (entryOf r 1)) (theEntry (entryOf r 2)) (theEntry (entryOf r 3)) ≡ theGsv t r
-    blanks-4 q = made 4 q
-
-    with-4 : r .count ≡ 4 → readLine (asLine (gsvBody t r)) ≡ theGsv t r
-    unfolding gsvOf gsvWith entriesOf
-    with-4 q =
-        let z = values-4 q in
-        ap (λ (fs : List (List ℕ)). readLine (asLine (joinFields (talkerText t ++ ascii "GSV") fs))) (fields-4 q)
-        ∙ read-back (talkerText t ++ ascii "GSV") (printFixed 1 (r .lines)) (printFixed 1 (r .line) ∷ printFixed 2 (r .satellites) ∷ printFixed 2 (entryOf r 0 .number) ∷ maybeText (printFixed 2) (entryOf r 0 .elevation) ∷ maybeText (printFixed 3) (entryOf r 0 .azimuth) ∷ maybeText (printFixed 2) (entryOf r 0 .signal) ∷ printFixed 2 (entryOf r 1 .number) ∷ maybeText (printFixed 2) (entryOf r 1 .elevation) ∷ maybeText (printFixed 3) (entryOf r 1 .azimuth) ∷ maybeText (printFixed 2) (entryOf r 1 .signal) ∷ printFixed 2 (entryOf r 2 .number) ∷ maybeText (printFixed 2) (entryOf r 2 .elevation) ∷ maybeText (printFixed 3) (entryOf r 2 .azimuth) ∷ maybeText (printFixed 2) (entryOf r 2 .signal) ∷ printFixed 2 (entryOf r 3 .number) ∷ maybeText (printFixed 2) (entryOf r 3 .elevation) ∷ maybeText (printFixed 3) (entryOf r 3 .azimuth) ∷ maybeText (printFixed 2) (entryOf r 3 .signal) ∷ []) (address-five t (ascii "GSV") refl) (address-clean t (ascii "GSV") refl ((lit< tt, lit< tt), ((lit< tt, lit< tt), ((lit< tt, lit< tt), tt))))
-        (subst (λ (fs : List (List ℕ)). CleanAll fs) (fields-4 q) clean)
-        (subst (λ (fs : List (List ℕ)). length (joinFields (talkerText t ++ ascii "GSV") fs) ≤ 76) (fields-4 q) fits)
-        ∙ ap (λ (x : Address). addressed x 19 (λ (k : ℕ). getD ((talkerText t ++ ascii "GSV") ∷ printFixed 1 (r .lines) ∷ printFixed 1 (r .line) ∷ printFixed 2 (r .satellites) ∷ printFixed 2 (entryOf r 0 .number) ∷ maybeText (printFixed 2) (entryOf r 0 .elevation) ∷ maybeText (printFixed 3) (entryOf r 0 .azimuth) ∷ maybeText (printFixed 2) (entryOf r 0 .signal) ∷ printFixed 2 (entryOf r 1 .number) ∷ maybeText (printFixed 2) (entryOf r 1 .elevation) ∷ maybeText (printFixed 3) (entryOf r 1 .azimuth) ∷ maybeText (printFixed 2) (entryOf r 1 .signal) ∷ printFixed 2 (entryOf r 2 .number) ∷ maybeText (printFixed 2) (entryOf r 2 .elevation) ∷ maybeText (printFixed 3) (entryOf r 2 .azimuth) ∷ maybeText (printFixed 2) (entryOf r 2 .signal) ∷ printFixed 2 (entryOf r 3 .number) ∷ maybeText (printFixed 2) (entryOf r 3 .elevation) ∷ maybeText (printFixed 3) (entryOf r 3 .azimuth) ∷ maybeText (printFixed 2) (entryOf r 3 .signal) ∷ []) k [])) (known-gsv t)
-        ∙ rw (exact-back 1 1 9 (lit≤ tt) (lit≤ tt) (lit< tt) (r .lines) (z .0), exact-back 1 1 9 (lit≤ tt) (lit≤ tt) (lit< tt) (r .line) (z .1 .0), exact-back 2 0 99 (lit≤ tt) (lit≤ tt) (lit< tt) (r .satellites) (z .1 .1 .0), entry-back 3 (entryOf r 0) (z .1 .1 .1 .0, (z .1 .1 .1 .1 .0, (z .1 .1 .1 .1 .1 .0, (z .1 .1 .1 .1 .1 .1 .0, tt)))), entry-back 7 (entryOf r 1) (z .1 .1 .1 .1 .1 .1 .1 .0, (z .1 .1 .1 .1 .1 .1 .1 .1 .0, (z .1 .1 .1 .1 .1 .1 .1 .1 .1 .0, (z .1 .1 .1 .1 .1 .1 .1 .1 .1 .1 .0, tt)))), entry-back 11 (entryOf r 2) (z .1 .1 .1 .1 .1 .1 .1 .1 .1 .1 .1 .0, (z .1 .1 .1 .1 .1 .1 .1 .1 .1 .1 .1 .1 .0, (z .1 .1 .1 .1 .1 .1 .1 .1 .1 .1 .1 .1 .1 .0, (z .1 .1 .1 .1 .1 .1 .1 .1 .1 .1 .1 .1 .1 .1 .0, tt)))), entry-back 15 (entryOf r 3) (z .1 .1 .1 .1 .1 .1 .1 .1 .1 .1 .1 .1 .1 .1 .1 .0, (z .1 .1 .1 .1 .1 .1 .1 .1 .1 .1 .1 .1 .1 .1 .1 .1 .0, (z .1 .1 .1 .1 .1 .1 .1 .1 .1 .1 .1 .1 .1 .1 .1 .1 .1 .0, (z .1 .1 .1 .1 .1 .1 .1 .1 .1 .1 .1 .1 .1 .1 .1 .1 .1 .1 .0, tt))))) (blanks-4 q)
-
-    -- What is written is read back as the same record and talker.
-    pub read-write : readLine (asLine (gsvBody t r)) ≡ theGsv t r
-    read-write = go (r .count) refl (good .few)
-      where
-        go : (c : ℕ) → r .count ≡ c → c ≤ 4 → readLine (asLine (gsvBody t r)) ≡ theGsv t r
-        go zero q h = with-0 q
-        go (suc zero) q h = with-1 q
-        go (suc (suc zero)) q h = with-2 q
-        go (suc (suc (suc zero))) q h = with-3 q
-        go (suc (suc (suc (suc zero)))) q h = with-4 q
-        go (suc (suc (suc (suc (suc c))))) q h = let z : ⊥ = omega arith in absurd z
+  pub write-read : (n : ℕ) → P (gsvOf t n field)
+  unfolding gsvOf
+  write-read n = with-read (entriesOf n)

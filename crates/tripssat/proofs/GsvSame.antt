@@ -1,9 +1,9 @@
 -- A line that reads as a GSV sentence passed the line rule and has the address of GSV, since no other address gives such a sentence. So
--- what was read of it has no fault. And it is written as the same bytes: no field is wrong, so each is the text of its value; the number of
--- entries says that these are all fields; and the address is the talker's bytes and GSV.
-use Prim.Native.Nat.{ℕ, zero, suc, _+_, _-_, _*_, _≤_}
-use lib.Dec.{eqb, ltb}
-use lib.ListN.{length}
+-- what was read of it has no fault. And it is written as the same bytes: the row of its entries keeps them, and the address is the
+-- talker's bytes and GSV.
+use Prim.Native.Nat.{ℕ, zero, suc, _+_, _-_, _≤_, _<_}
+use lib.Dec.{eqb, ltb, lit<, lit≤}
+use lib.ListN.{length, getD}
 use borrow.Author.Tests.{eqb-true, ltb-false, ne-eqb}
 use mathlib.Core.Bool.{Bool, true, false, cond}
 use mathlib.Core.List.{List, [], _∷_, _++_}
@@ -17,14 +17,14 @@ use Rattle.address.specs.declared.Pir.{Pir}
 use Rattle.address.specs.declared.Pir.the-variants as P
 use Rattle.address.specs.declared.Talker.{Talker}
 use Rattle.address.specs.Address.{addressOf}
-use Rattle.commands.specs.Pirea.{pireaFrom, pireaOf}
-use Rattle.commands.specs.Pirer.{pirerFrom, pirerOf}
-use Rattle.commands.specs.Pirpa.{pirpaFrom, pirpaOf}
-use Rattle.commands.specs.Pirpr.{pirprFrom, pirprOf}
-use Rattle.commands.specs.Pirsa.{pirsaFrom, pirsaOf}
-use Rattle.commands.specs.Pirsr.{pirsrFrom, pirsrOf}
-use Rattle.commands.specs.Pirta.{pirtaFrom, pirtaOf}
-use Rattle.commands.specs.Pirtr.{pirtrFrom, pirtrOf}
+use Rattle.commands.specs.Pirea.{pireaRow}
+use Rattle.commands.specs.Pirer.{pirerRow}
+use Rattle.commands.specs.Pirpa.{pirpaRow}
+use Rattle.commands.specs.Pirpr.{pirprRow}
+use Rattle.commands.specs.Pirsa.{pirsaRow}
+use Rattle.commands.specs.Pirsr.{pirsrRow}
+use Rattle.commands.specs.Pirta.{pirtaRow}
+use Rattle.commands.specs.Pirtr.{pirtrRow}
 use Rattle.digits.specs.Ascii.{ascii}
 use Rattle.digits.proofs.Bools.{true-false}
 use Rattle.fields.specs.Fields.{fieldsOf, joinFields}
@@ -35,29 +35,30 @@ use Rattle.forms.specs.Got.{pick}
 use Rattle.kinds.specs.Kinds.{exactForm, fixedForm}
 use Rattle.line.specs.Line.{asLine, bodyOf, lineRefusal}
 use Rattle.line.proofs.Form.{accepted}
-use Rattle.navigation.specs.Gga.{ggaFrom, ggaOf}
-use Rattle.navigation.specs.Gll.{gllFrom, gllOf}
-use Rattle.navigation.specs.Rmc.{rmcFrom, rmcOf}
-use Rattle.navigation.specs.Vtg.{vtgFrom, vtgOf}
-use Rattle.navigation.specs.Zda.{zdaFrom, zdaOf}
+use Rattle.navigation.specs.Gga.{ggaRow}
+use Rattle.navigation.specs.Gll.{gllRow}
+use Rattle.navigation.specs.Rmc.{rmcRow}
+use Rattle.navigation.specs.Vtg.{vtgRow}
+use Rattle.navigation.specs.Zda.{zdaRow}
 use Rattle.reading.specs.Lines.{addressed, readBody, readLine}
 use Rattle.reading.proofs.Order.{sound}
-use Rattle.records.specs.Answers.{answered, answeredBeside, counted}
-use Rattle.records.specs.Blank.{aloneOf}
-use Rattle.records.specs.Wrong.{After, after, firstWrong}
-use Rattle.records.specs.declared.Gsv.{Gsv}
+use Rattle.records.specs.Blank.{aloneOf, isBlank}
 use Rattle.records.specs.declared.Reading.{Reading}
 use Rattle.records.specs.declared.Sentence.{Sentence}
 use Rattle.records.specs.declared.Sentence.the-variants as S
-use Rattle.satellites.specs.Active.{gsaFrom, gsaOf}
+use Rattle.row.specs.Kind.{answerBy, readBy}
+use Rattle.row.specs.Row.{Row, one}
+use Rattle.satellites.specs.Active.{gsaBeside, gsaMade, gsaRow}
 use Rattle.satellites.specs.declared.gsv.GotEntry.{GotEntry}
-use Rattle.satellites.specs.View.{entriesOf, entryAt, entryForm, entryFrom, firstOf, gsvFrom, gsvOf, gsvWith}
+use Rattle.satellites.specs.View.{entriesOf, entry, entryAt, entryFrom, entryIf, firstOf, gsvBeside, gsvMade, gsvOf, gsvRow, gsvWith, noEntry}
+use Rattle.satellites.specs.View as View
 use Rattle.sealing.specs.Body.{talkerText}
-use Rattle.trips.proofs.Known.{all-zero}
-use Rattle.trips.proofs.SameTexts.{address-same, all-firsts, exact-same, firsts, fixed-same}
-use Rattle.writesat.specs.Gsv.{entryFields, gsvBody, gsvFields}
-use Rattle.tripssat.proofs.Gsv.{Good, theGsv}
-use Rattle.tripssat.proofs.GsvRead.{first-none, write-read}
+use Rattle.trips.proofs.SameTexts.{address-same, exact-same, fixed-same}
+use Rattle.writesat.specs.Gsv.{gsvBody, gsvFields}
+use Rattle.rowlaws.proofs.Laws.{Begins}
+use Rattle.rowlaws.proofs.FormLaws.{lawful-exact}
+use Rattle.rowlaws.proofs.SameLaws.{_⊜_, Keeps, fields-same, keeps-one, SameForm, same-exact, same-onlyIf}
+use Rattle.tripssat.proofs.Gsv.{Good, first-none, lawful-entryIf, theGsv, write-read}
 
 -- Whether a sentence is GSV.
 abbrev isGsv : Sentence → Bool
@@ -82,26 +83,6 @@ isGsv (S.Refused n f) = false
 no-gsv : {P : Type 0} (n f : ℕ) (t : Talker) → S.Refused n f ≡ S.Gsv t → P
 no-gsv n f t e = absurd (true-false (ap isGsv e) refl)
 
--- An answer is the sentence that it is for, or a refusal; where a record stands beside it, too.
-other : (n m w : ℕ) (s : Sentence) → isGsv s ≡ false → isGsv (counted n m (answered w s)) ≡ false
-unfolding counted answered
-other n m w s o = go (eqb n m) (eqb w 0)
-  where
-    go : (a b : Bool) → isGsv (pick a (pick b s (S.Refused 5 w)) (S.Refused 4 0)) ≡ false
-    go true true = o
-    go true false = refl
-    go false b = refl
-
-other-beside : (b : Bool) (w : ℕ) (r : Reading) → isGsv (r .sentence) ≡ false
-    → isGsv (pick b (answeredBeside w r) (aloneOf (S.Refused 4 0)) .sentence) ≡ false
-unfolding answeredBeside
-other-beside b w r o = go b (eqb w 0)
-  where
-    go : (a c : Bool) → isGsv (pick a (pick c r (aloneOf (S.Refused 5 w))) (aloneOf (S.Refused 4 0)) .sentence) ≡ false
-    go true true = o
-    go true false = refl
-    go false c = refl
-
 module _ (t : Talker) (n : ℕ) (field : ℕ → List ℕ) where
   abbrev Only : Address → Type 0
   Only a = addressed a n field .sentence ≡ S.Gsv t → a ≡ Standard t K.Gsv
@@ -109,30 +90,48 @@ module _ (t : Talker) (n : ℕ) (field : ℕ → List ℕ) where
   none-of : (a : Address) → isGsv (addressed a n field .sentence) ≡ false → Only a
   none-of a o e = absurd (true-false (ap isGsv e) o)
 
+  -- An answer is what it is for, or a refusal.
+  other : {A G R : Type 0} (refuse : ℕ → ℕ → A) (row : Row G R) (make : R → A) (is : A → Bool) → ((no at : ℕ) → is (refuse no at) ≡ false)
+      → ((r : R) → is (make r) ≡ false) → is (readBy refuse row make n field) ≡ false
+  unfolding readBy answerBy
+  other refuse row make is none o = go (row .wrong (row .got field 0) 0 0) (eqb n (row .width))
+    where
+      go : (w : ℕ) (a : Bool) → is (pick a (pick (eqb w 0) (make (row .value (row .got field 0))) (refuse 5 w)) (refuse 4 0)) ≡ false
+      go w true = by (eqb w 0)
+        where
+          by : (b : Bool) → is (pick b (make (row .value (row .got field 0))) (refuse 5 w)) ≡ false
+          by true = o (row .value (row .got field 0))
+          by false = none 5 w
+      go w false = none 4 0
+
+  alone : {G R : Type 0} (row : Row G R) (make : R → Sentence) → ((r : R) → isGsv (make r) ≡ false)
+      → isGsv (readBy S.Refused row make n field) ≡ false
+  alone row make = other S.Refused row make isGsv (λ no at. refl)
+
   same-talker : (u : Talker) → gsvOf u n field .sentence ≡ S.Gsv t → u ≡ t
   same-talker u =
       write-read u field (λ (r : Reading). r .sentence ≡ S.Gsv t → u ≡ t) (λ no at. no-gsv no at t) (λ r places good e. cc) n
 
   standard-only : (u : Talker) (k : Kind) → Only (Standard u k)
-  unfolding ggaOf ggaFrom gllOf gllFrom gsaOf gsaFrom rmcOf rmcFrom vtgOf vtgFrom zdaOf zdaFrom
-  standard-only u K.Gga = none-of (Standard u K.Gga) (other n 14 _ _ refl)
-  standard-only u K.Gll = none-of (Standard u K.Gll) (other n 7 _ _ refl)
-  standard-only u K.Gsa = none-of (Standard u K.Gsa) (other-beside (eqb n 17) _ _ refl)
+  standard-only u K.Gga = none-of (Standard u K.Gga) (alone ggaRow (S.Gga u) (λ r. refl))
+  standard-only u K.Gll = none-of (Standard u K.Gll) (alone gllRow (S.Gll u) (λ r. refl))
+  standard-only u K.Gsa =
+      none-of (Standard u K.Gsa)
+      (other View.refused gsaRow (λ v. gsaBeside u (gsaMade v)) (λ (x : Reading). isGsv (x .sentence)) (λ no at. refl) (λ r. refl))
   standard-only u K.Gsv = λ e. ap (λ (x : Talker). Standard x K.Gsv) (same-talker u e)
-  standard-only u K.Rmc = none-of (Standard u K.Rmc) (other n 12 _ _ refl)
-  standard-only u K.Vtg = none-of (Standard u K.Vtg) (other n 9 _ _ refl)
-  standard-only u K.Zda = none-of (Standard u K.Zda) (other n 6 _ _ refl)
+  standard-only u K.Rmc = none-of (Standard u K.Rmc) (alone rmcRow (S.Rmc u) (λ r. refl))
+  standard-only u K.Vtg = none-of (Standard u K.Vtg) (alone vtgRow (S.Vtg u) (λ r. refl))
+  standard-only u K.Zda = none-of (Standard u K.Zda) (alone zdaRow (S.Zda u) (λ r. refl))
 
   maker-only : (k : Pir) → Only (Maker k)
-  unfolding pirprOf pirprFrom pirtrOf pirtrFrom pirsrOf pirsrFrom pirerOf pirerFrom pirpaOf pirpaFrom pirtaOf pirtaFrom pirsaOf pirsaFrom pireaOf pireaFrom
-  maker-only P.Pr = none-of (Maker P.Pr) (other n 4 _ _ refl)
-  maker-only P.Tr = none-of (Maker P.Tr) (other n 2 _ _ refl)
-  maker-only P.Sr = none-of (Maker P.Sr) (other n 3 _ _ refl)
-  maker-only P.Er = none-of (Maker P.Er) (other n 1 _ _ refl)
-  maker-only P.Pa = none-of (Maker P.Pa) (other n 4 _ _ refl)
-  maker-only P.Ta = none-of (Maker P.Ta) (other n 2 _ _ refl)
-  maker-only P.Sa = none-of (Maker P.Sa) (other n 3 _ _ refl)
-  maker-only P.Ea = none-of (Maker P.Ea) (other n 1 _ _ refl)
+  maker-only P.Pr = none-of (Maker P.Pr) (alone pirprRow S.Pr (λ r. refl))
+  maker-only P.Tr = none-of (Maker P.Tr) (alone pirtrRow S.Tr (λ r. refl))
+  maker-only P.Sr = none-of (Maker P.Sr) (alone pirsrRow S.Sr (λ r. refl))
+  maker-only P.Er = none-of (Maker P.Er) (alone pirerRow (λ v. S.Er) (λ r. refl))
+  maker-only P.Pa = none-of (Maker P.Pa) (alone pirpaRow S.Pa (λ r. refl))
+  maker-only P.Ta = none-of (Maker P.Ta) (alone pirtaRow S.Ta (λ r. refl))
+  maker-only P.Sa = none-of (Maker P.Sa) (alone pirsaRow S.Sa (λ r. refl))
+  maker-only P.Ea = none-of (Maker P.Ea) (alone pireaRow S.Ea (λ r. refl))
 
   -- No other address gives a GSV sentence.
   only : (a : Address) → Only a
@@ -172,105 +171,83 @@ gsv-good l t e =
     Held : Reading → Type 0
     Held r = r .sentence ≡ S.Gsv t → (length (r .gsv .entries) ≡ 4) × Good (r .gsv)
 
--- A used entry without a wrong field is written as its own four fields; any other is no field.
-module _ (a b c d : List ℕ) where
+-- An entry without a wrong field is written as its own four fields.
+module _ (field : ℕ → List ℕ) where
   abbrev wrong : ℕ
-  wrong = firstOf (exactForm 2 1 99 a .wrong) (fixedForm 2 0 90 b .wrong) (fixedForm 3 0 359 c .wrong) (fixedForm 2 0 99 d .wrong)
+  wrong =
+      firstOf (exactForm 2 1 99 (field 1) .wrong) (fixedForm 2 0 90 (field 2) .wrong) (fixedForm 3 0 359 (field 3) .wrong)
+      (fixedForm 2 0 99 (field 4) .wrong)
 
-  abbrev entry : ℕ → GotEntry
-  entry w = entryAt w (exactForm 2 1 99 a) (fixedForm 2 0 90 b) (fixedForm 3 0 359 c) (fixedForm 2 0 99 d)
+  abbrev at : ℕ → GotEntry
+  at w = entryAt w (exactForm 2 1 99 (field 1)) (fixedForm 2 0 90 (field 2)) (fixedForm 3 0 359 (field 3)) (fixedForm 2 0 99 (field 4))
 
-  at-same : (w : ℕ) → wrong ≡ w → entry w .wrong ≡ 0 → entryFields true (entry w .entry) ≡ a ∷ b ∷ c ∷ d ∷ []
+  own : (w : ℕ) → wrong ≡ w → at w .wrong ≡ 0 → entry .text (at w .entry) ≡ field 1 ∷ field 2 ∷ field 3 ∷ field 4 ∷ []
   unfolding entryAt
-  at-same zero q e =
+  own zero q e =
       let z = first-none _ _ _ _ q in
-      rw (exact-same 2 1 99 a (z .0), fixed-same 2 0 90 b (z .1 .0), fixed-same 3 0 359 c (z .1 .1 .0), fixed-same 2 0 99 d (z .1 .1 .1))
-  at-same (suc w) q e =
-      let f : suc w ≡ 0 = rw (ne-eqb (suc w) 0 (λ g. omega arith)) at e in
-      let i : ⊥ = omega (arith, f) in absurd i
-
-  entry-same : (u : Bool) → entryForm u a b c d .wrong ≡ 0 → entryFields u (entryForm u a b c d .entry) ≡ pick u (a ∷ b ∷ c ∷ d ∷ []) []
-  unfolding entryForm entryFrom
-  entry-same true e = at-same wrong refl e
-  entry-same false e = refl
-
--- What is read of a line with so many entries: what each place comes to, the fields that may be wrong, the record, and the line's own fields.
-module _ (field : ℕ → List ℕ) (entries : ℕ) where
-  abbrev place : ℕ → GotEntry
-  place k = entryForm (ltb k entries) (field (k * 4 + 4)) (field (k * 4 + 5)) (field (k * 4 + 6)) (field (k * 4 + 7))
-
-  abbrev wrongs : List After
-  wrongs =
-      after 0 (exactForm 1 1 9 (field 1) .wrong)
-      ∷ after 1 (exactForm 1 1 9 (field 2) .wrong)
-      ∷ after 2 (exactForm 2 0 99 (field 3) .wrong)
-      ∷ after 3 (place 0 .wrong)
-      ∷ after 7 (place 1 .wrong)
-      ∷ after 11 (place 2 .wrong)
-      ∷ after 15 (place 3 .wrong)
-      ∷ []
-
-  abbrev kept : Gsv
-  kept =
-      record {
-        lines = exactForm 1 1 9 (field 1) .value;
-        line = exactForm 1 1 9 (field 2) .value;
-        satellites = exactForm 2 0 99 (field 3) .value;
-        count = entries;
-        entries = place 0 .entry ∷ place 1 .entry ∷ place 2 .entry ∷ place 3 .entry ∷ [];
-      }
-
-  abbrev four : ℕ → List (List ℕ)
-  four k = pick (ltb k entries) (field (k * 4 + 4) ∷ field (k * 4 + 5) ∷ field (k * 4 + 6) ∷ field (k * 4 + 7) ∷ []) []
-
-  abbrev given : List (List ℕ)
-  given = field 1 ∷ field 2 ∷ field 3 ∷ (four 0 ++ (four 1 ++ (four 2 ++ four 3)))
-
-  -- Where no field is wrong, each is written as it was read.
-  fields-same : firstWrong wrongs ≡ 0 → gsvFields kept ≡ given
-  unfolding gsvFields
-  fields-same e =
-      let z = all-zero wrongs e in
       rw (
-        exact-same 1 1 9 (field 1) (z .0),
-        exact-same 1 1 9 (field 2) (z .1 .0),
-        exact-same 2 0 99 (field 3) (z .1 .1 .0),
-        entry-same (field 4) (field 5) (field 6) (field 7) (ltb 0 entries) (z .1 .1 .1 .0),
-        entry-same (field 8) (field 9) (field 10) (field 11) (ltb 1 entries) (z .1 .1 .1 .1 .0),
-        entry-same (field 12) (field 13) (field 14) (field 15) (ltb 2 entries) (z .1 .1 .1 .1 .1 .0),
-        entry-same (field 16) (field 17) (field 18) (field 19) (ltb 3 entries) (z .1 .1 .1 .1 .1 .1 .0),
+        exact-same 2 1 99 (field 1) (z .0),
+        fixed-same 2 0 90 (field 2) (z .1 .0),
+        fixed-same 3 0 359 (field 3) (z .1 .1 .0),
+        fixed-same 2 0 99 (field 4) (z .1 .1 .1),
       )
+  own (suc w) q e =
+      let f : suc w ≡ 0 = rw (ne-eqb (suc w) 0 (λ g. omega arith)) at e in
+      let i : ⊥ = omega (arith, f) in
+      absurd i
 
-  -- A GSV sentence is given only with at most four entries and no wrong field.
-  told : (t : Talker) → gsvWith t entries field .sentence ≡ S.Gsv t → (entries ≤ 4) × (firstWrong wrongs ≡ 0) × (gsvWith t entries field .gsv ≡ kept)
-  unfolding gsvWith gsvFrom answeredBeside
-  told t = go (ltb 4 entries) (eqb (firstWrong wrongs) 0) refl refl
+  in-place : (t : List (List ℕ)) → t ≡ field 1 ∷ field 2 ∷ field 3 ∷ field 4 ∷ [] → Begins field 0 4 t
+  in-place t e zero h = ap (λ (x : List (List ℕ)). getD x 0 []) (sym e)
+  in-place t e (suc zero) h = ap (λ (x : List (List ℕ)). getD x 1 []) (sym e)
+  in-place t e (suc (suc zero)) h = ap (λ (x : List (List ℕ)). getD x 2 []) (sym e)
+  in-place t e (suc (suc (suc zero))) h = ap (λ (x : List (List ℕ)). getD x 3 []) (sym e)
+  in-place t e (suc (suc (suc (suc k)))) h = let z : ⊥ = omega arith in absurd z
+
+  entry-same : entry .wrong (entry .got field) ≡ 0 → Begins field 0 4 (entry .text (entry .value (entry .got field)))
+  unfolding entryFrom
+  entry-same e = in-place _ (own wrong refl e)
+
+keeps-gsv : (count : ℕ) → Keeps (gsvRow count)
+unfolding gsvRow
+keeps-gsv count =
+    let digit = keeps-one (lawful-exact 1 1 9 (lit≤ tt) (lit≤ tt) (lit< tt)) (same-exact 1 1 9) in
+    let all = keeps-one (lawful-exact 2 0 99 (lit≤ tt) (lit≤ tt) (lit< tt)) (same-exact 2 0 99) in
+    let one-same : SameForm entry = record { same = entry-same } in
+    let entry-of : (k : ℕ) → Keeps (one (entryIf (ltb k count))) = λ k.
+        keeps-one (lawful-entryIf (ltb k count)) (same-onlyIf (noEntry 0) (λ e. cond (isBlank e) 0 1) entry one-same (ltb k count)) in
+    digit ⊜ digit ⊜ all ⊜ entry-of 0 ⊜ entry-of 1 ⊜ entry-of 2 ⊜ entry-of 3
+
+-- A GSV sentence is given only with at most four entries and no wrong field.
+module _ (field : ℕ → List ℕ) (count : ℕ) (t : Talker) where
+  abbrev first : ℕ
+  first = gsvRow count .wrong (gsvRow count .got field 0) 0 0
+
+  abbrev kept : View.Values
+  kept = gsvRow count .value (gsvRow count .got field 0)
+
+  told : gsvWith t count field .sentence ≡ S.Gsv t → (count ≤ 4) × (first ≡ 0) × (gsvWith t count field .gsv ≡ gsvMade count kept)
+  unfolding gsvWith answerBy
+  told = go (ltb 4 count) (eqb first 0) refl refl
     where
       answer : Bool → Bool → Reading
-      answer a b = pick a (aloneOf (S.Refused 4 0)) (pick b (theGsv t kept) (aloneOf (S.Refused 5 (firstWrong wrongs))))
+      answer a b = pick a (View.refused 4 0) (pick b (gsvBeside t count kept) (View.refused 5 first))
 
-      go : (a b : Bool) → ltb 4 entries ≡ a → eqb (firstWrong wrongs) 0 ≡ b → answer a b .sentence ≡ S.Gsv t
-          → (entries ≤ 4) × (firstWrong wrongs ≡ 0) × (answer a b .gsv ≡ kept)
+      go : (a b : Bool) → ltb 4 count ≡ a → eqb first 0 ≡ b → answer a b .sentence ≡ S.Gsv t
+          → (count ≤ 4) × (first ≡ 0) × (answer a b .gsv ≡ gsvMade count kept)
       go true b p q i = no-gsv 4 0 t i
-      go false false p q i = no-gsv 5 (firstWrong wrongs) t i
-      go false true p q i = (ltb-false 4 entries p, eqb-true (firstWrong wrongs) 0 q, refl)
+      go false false p q i = no-gsv 5 first t i
+      go false true p q i = (ltb-false 4 count p, eqb-true first 0 q, refl)
 
--- The address and these are the first fields of a line, four for each entry and four more.
-all-given : (field : ℕ → List ℕ) (c : ℕ) → c ≤ 4 → firsts (c * 4 + 4) field ≡ field 0 ∷ given field c
-all-given field zero h = refl
-all-given field (suc zero) h = refl
-all-given field (suc (suc zero)) h = refl
-all-given field (suc (suc (suc zero))) h = refl
-all-given field (suc (suc (suc (suc zero)))) h = refl
-all-given field (suc (suc (suc (suc (suc c))))) h = let z : ⊥ = omega arith in absurd z
+-- A line of at most four entries has as many fields as their row.
+abbrev of : Bool → Bool → Bool → Bool → Bool → ℕ
+of a b c d e = cond a 0 (cond b 1 (cond c 2 (cond d 3 (cond e 4 5))))
 
--- A line of at most four entries has so many fields after its address.
-entries-are : (n : ℕ) → entriesOf n ≤ 4 → n ≡ entriesOf n * 4 + 3
-unfolding entriesOf
+entries-are : (n : ℕ) → entriesOf n ≤ 4 → n ≡ gsvRow (entriesOf n) .width
+unfolding entriesOf gsvRow
 entries-are n = go (eqb n 3) (eqb n 7) (eqb n 11) (eqb n 15) (eqb n 19) refl refl refl refl refl
   where
-    go : (a b c d e : Bool) → eqb n 3 ≡ a → eqb n 7 ≡ b → eqb n 11 ≡ c → eqb n 15 ≡ d → eqb n 19 ≡ e
-        → cond a 0 (cond b 1 (cond c 2 (cond d 3 (cond e 4 5)))) ≤ 4 → n ≡ cond a 0 (cond b 1 (cond c 2 (cond d 3 (cond e 4 5)))) * 4 + 3
+    go : (a b c d e : Bool) → eqb n 3 ≡ a → eqb n 7 ≡ b → eqb n 11 ≡ c → eqb n 15 ≡ d → eqb n 19 ≡ e → of a b c d e ≤ 4
+        → n ≡ gsvRow (of a b c d e) .width
     go true b c d e p q r s u h = eqb-true n 3 p
     go false true c d e p q r s u h = eqb-true n 7 q
     go false false true d e p q r s u h = eqb-true n 11 r
@@ -282,29 +259,28 @@ module _ (l : List ℕ) (t : Talker) (e : readLine l .sentence ≡ S.Gsv t) wher
   abbrev entries : ℕ
   entries = entriesOf (number l)
 
-  read-told : (entries ≤ 4) × (firstWrong (wrongs (fields l) entries) ≡ 0) × (readLine l .gsv ≡ kept (fields l) entries)
+  read-told : (entries ≤ 4) × (first (fields l) entries t ≡ 0) × (readLine l .gsv ≡ gsvMade entries (kept (fields l) entries t))
   unfolding gsvOf
   read-told =
       let x = told (fields l) entries t (sym (ap (λ (r : Reading). r .sentence) (reads l t e)) ∙ e) in
       (x .0, x .1, ap (λ (r : Reading). r .gsv) (reads l t e) ∙ x .2)
 
-  some-field : 1 ≤ length (fieldsOf (bodyOf l))
-  some-field = let f = first-field (bodyOf l) in rw (f .2) (omega arith)
-
-  as-many : entries * 4 + 4 ≡ length (fieldsOf (bodyOf l))
-  as-many = omega (arith, entries-are (number l) (read-told .0), some-field)
-
-  all-fields : fields l 0 ∷ given (fields l) entries ≡ fieldsOf (bodyOf l)
-  all-fields = sym (all-given (fields l) entries (read-told .0)) ∙ ap (λ (k : ℕ). firsts k (fields l)) as-many ∙ all-firsts [] (fieldsOf (bodyOf l))
-
   -- What is written has the body's own fields behind its own address.
   body-same : gsvBody t (readLine l .gsv) ≡ bodyOf l
-  body-same =
-      ap (gsvBody t) (read-told .2)
-      ∙ ap (joinFields (talkerText t ++ ascii "GSV")) (fields-same (fields l) entries (read-told .1))
-      ∙ ap (λ (a : List ℕ). joinFields a (given (fields l) entries)) (sym (address-same (bodyOf l) t K.Gsv (way l t e .1)))
-      ∙ ap joinAll all-fields
-      ∙ join-fields (bodyOf l)
+  body-same = let f = first-field (bodyOf l) in go (f .0) (f .1) (f .2)
+    where
+      go : (a : List ℕ) (fs : List (List ℕ)) → fieldsOf (bodyOf l) ≡ a ∷ fs → gsvBody t (readLine l .gsv) ≡ bodyOf l
+      go a fs q =
+          let many : length fs ≡ gsvRow entries .width = omega (arith, entries-are (number l) (read-told .0), ap length q) in
+          let wrong : gsvRow entries .wrong (gsvRow entries .got (λ k. getD (a ∷ fs) k []) 0) 0 0 ≡ 0 = rw q at (read-told .1) in
+          let address : a ≡ talkerText t ++ ascii "GSV" = rw q at (address-same (bodyOf l) t K.Gsv (way l t e .1)) in
+          ap (gsvBody t) (read-told .2)
+          ∙ ap (λ (x : List (List ℕ)). joinFields (talkerText t ++ ascii "GSV") x)
+          (ap (λ (x : List (List ℕ)). gsvFields (gsvMade entries (kept (λ k. getD x k []) entries t))) q
+          ∙ fields-same (gsvRow entries) (keeps-gsv entries) a fs many wrong)
+          ∙ ap (λ (x : List ℕ). joinFields x fs) (sym address)
+          ∙ ap joinAll (sym q)
+          ∙ join-fields (bodyOf l)
 
 -- The line written from what was read is the line itself, byte by byte.
 pub same-bytes : (l : List ℕ) (t : Talker) → readLine l .sentence ≡ S.Gsv t → asLine (gsvBody t (readLine l .gsv)) ≡ l

@@ -11,7 +11,8 @@ use Rattle.records.specs.declared.Entry.{Entry}
 use Rattle.records.specs.declared.Gsv.{Gsv}
 use Rattle.records.specs.Blank.{blankEntry, isBlank}
 use Rattle.records.specs.Wrong.{After, after, firstWrong}
-use Rattle.satellites.specs.View.{azimuth, elevation, entry, lineNumber, satelliteNumber, satelliteTotal, signal}
+use Rattle.satellites.specs.View.{azimuth, elevation, entryIf, gsvRow, lineNumber, satelliteNumber, satelliteTotal, signal, Values}
+use Rattle.row.specs.Kind.{fieldsFor}
 use Rattle.sealing.specs.declared.Written.{Written}
 use Rattle.sealing.specs.Written.{pick, refused, wrote}
 use Rattle.sealing.specs.Body.{standardBody}
@@ -57,20 +58,15 @@ gsvFault r =
     pick (ltb 4 (r .count)) (refused 5 0 0)
     (pick (eqb (gsvWrong r) 0) (pick (restBlank r) (wrote 0) (refused 5 0 0)) (refused 5 1 (gsvWrong r)))
 
--- The fields of an entry, and of a record.
+-- The fields of an entry, used or not, and of a record.
 abbrev pub entryFields : Bool → Entry → List (List ℕ)
-entryFields true e = entry .text e
-entryFields false e = []
+entryFields on e = entryIf on .text e
 
-unfoldable pub gsvFields : Gsv → List (List ℕ)
-gsvFields r =
-    lineNumber .text (r .lines)
-    ++ (lineNumber .text (r .line)
-    ++ (satelliteTotal .text (r .satellites)
-    ++ (entryFields (used r 0) (entryOf r 0)
-    ++ (entryFields (used r 1) (entryOf r 1)
-    ++ (entryFields (used r 2) (entryOf r 2)
-    ++ entryFields (used r 3) (entryOf r 3))))))
+abbrev pub gsvValues : Gsv → Values
+gsvValues r = (r .lines, (r .line, (r .satellites, (entryOf r 0, (entryOf r 1, (entryOf r 2, entryOf r 3))))))
+
+abbrev pub gsvFields : Gsv → List (List ℕ)
+gsvFields r = fieldsFor (gsvRow (r .count)) (gsvValues r)
 
 abbrev pub gsvBody : Talker → Gsv → List ℕ
 gsvBody t r = standardBody t "GSV" (gsvFields r)
