@@ -8,3 +8,6 @@ pub mod PlaceRows
 pub mod PlaceKind
 pub mod PlaceForms
 pub mod PlaceNeeded
+pub mod PlaceSeveral
+pub mod PlaceSides
+pub mod PlacePosition
