@@ -11,3 +11,5 @@ pub mod PlaceNeeded
 pub mod PlaceSeveral
 pub mod PlaceSides
 pub mod PlacePosition
+pub mod PlaceZone
+pub mod PlaceDate

@@ -15,8 +15,10 @@ use Rattle.forms.specs.Got.{gotIntOf, missingInt, pick}
 use Rattle.forms.specs.Limits.{halfCircle}
 use Rattle.forms.specs.Number.{belowOf}
 use Rattle.forms.specs.Sign.{signed}
+use Rattle.trips.proofs.Clean.{Clean}
+use Rattle.row.specs.Row.{Form}
 use Rattle.row.specs.Forms.{variation}
-use Rattle.rowlaws.proofs.PlaceLaws.{Agree, Completed, named, PrefixForm}
+use Rattle.rowlaws.proofs.PlaceLaws.{Agree, Completed, PrefixForm}
 use Rattle.rowlaws.proofs.PlaceSeveral.{empty, prefix-several, put-from, unread}
 
 -- What two fields read as: whether the value is there, and whether the first field is wrong.
@@ -48,7 +50,49 @@ module _ (plus minus u : List ℕ) where
   sided-good false t none h p q = ap (λ (b : Bool). pick b 1 0) h
   sided-good false t (some v) h p q = rw (q refl)
 
--- A variation.
+-- A form of two such fields, with a text that completes a first field that is read.
+abbrev ofTwo : {X : Type 0} → ℕ → (List ℕ → List ℕ → GotInt) → (GotInt → X) → (X → ℕ) → (X → List (List ℕ)) → Form GotInt X
+ofTwo most form value fault text =
+    record {
+      width = 2;
+      most = most;
+      got = λ field. form (field 1) (field 2);
+      wrong = λ g. g .wrong;
+      value = value;
+      fault = fault;
+      text = text;
+    }
+
+module _ (form : List ℕ → List ℕ → GotInt) (read : List ℕ → Option ℕ)
+    (is : (a b : List ℕ) → Sided (form a b) (not (empty a)) (unread (empty a) (read a)))
+    (none-good : form [] [] .wrong ≡ 0) (next : List ℕ → List ℕ) (clean : (a : List ℕ) → Clean (next a))
+    (good : (a : List ℕ) → unread (empty a) (read a) ≡ false → form a (next a) .wrong ≡ 0) where
+  abbrev at : (ℕ → List ℕ) → ℕ
+  at field = form (field 1) (field 2) .wrong
+
+  two-decided : (field other : ℕ → List ℕ) (k : ℕ) → 0 < k → k < 2 → Agree field other suc k → eqb (at other) k ≡ eqb (at field) k
+  two-decided field other zero h i s = let z : ⊥ = omega arith in absurd z
+  two-decided field other (suc zero) h i s =
+      is (other 1) (other 2) .is-bad
+      ∙ ap (λ (f : List ℕ). unread (empty f) (read f)) (s 0 h)
+      ∙ sym (is (field 1) (field 2) .is-bad)
+  two-decided field other (suc (suc k)) h i s = let z : ⊥ = omega arith in absurd z
+
+  two-mended : (field : ℕ → List ℕ) (k : ℕ) → 0 < k → k ≤ 2 → at field ≡ k → Unit {0} → Completed at field suc 2 k
+  two-mended field zero h i e u = let z : ⊥ = omega arith in absurd z
+  two-mended field (suc zero) h i e u = put-from 1 [] tt none-good
+  two-mended field (suc (suc zero)) h i e u =
+      let b : eqb (at field) 1 ≡ false = rw e in
+      put-from 2 (next (field 1) ∷ []) (clean (field 1), tt) (good (field 1) (sym (is (field 1) (field 2) .is-bad) ∙ b))
+  two-mended field (suc (suc (suc k))) h i e u = let z : ⊥ = omega arith in absurd z
+
+  pub prefix-two : {X : Type 0} {most : ℕ} {value : GotInt → X} {fault : X → ℕ} {text : X → List (List ℕ)}
+      → PrefixForm (ofTwo most form value fault text)
+  prefix-two {most = most} {value} {fault} {text} =
+      prefix-several (ofTwo most form value fault text) (λ field other s. rw (s 0 (lit< tt), s 1 (lit< tt)))
+      (λ field. is (field 1) (field 2) .most) two-decided two-mended (λ field. put-from 1 [] tt none-good)
+
+-- A variation: E.
 abbrev degrees : List ℕ → Option ℕ
 degrees f = belowOf halfCircle f
 
@@ -56,40 +100,14 @@ variation-is : (f u : List ℕ) → Sided (variationForm f u) (not (empty f)) (u
 unfolding variationForm
 variation-is f u = sided-is (ascii "E") (ascii "W") u (empty f) (empty u || (same u (ascii "E") || same u (ascii "W"))) (degrees f)
 
-variation-east : (f : List ℕ) → unread (empty f) (degrees f) ≡ false → variationForm f (ascii "E") .wrong ≡ 0
-unfolding variationForm same
-variation-east f h = sided-good (ascii "E") (ascii "W") (ascii "E") (empty f) true (degrees f) h (λ e. refl) (λ e. refl)
-
 variation-none : variationForm [] [] .wrong ≡ 0
 unfolding variationForm
 variation-none = refl
 
-variation-own : (field other : ℕ → List ℕ) → Agree field other suc 2 → variation .got other ≡ variation .got field
-variation-own field other s = rw (s 0 (lit< tt), s 1 (lit< tt))
-
-variation-decided : (field other : ℕ → List ℕ) (k : ℕ) → 0 < k → k < 2 → Agree field other suc k
-    → eqb (named variation other) k ≡ eqb (named variation field) k
-variation-decided field other zero h i s = let z : ⊥ = omega arith in absurd z
-variation-decided field other (suc zero) h i s =
-    variation-is (other 1) (other 2) .is-bad
-    ∙ ap (λ (f : List ℕ). unread (empty f) (degrees f)) (s 0 h)
-    ∙ sym (variation-is (field 1) (field 2) .is-bad)
-variation-decided field other (suc (suc k)) h i s = let z : ⊥ = omega arith in absurd z
-
-variation-fresh : (field : ℕ → List ℕ) → Completed (named variation) field suc 2 1
-variation-fresh field = put-from 1 [] tt variation-none
-
-variation-mended : (field : ℕ → List ℕ) (k : ℕ) → 0 < k → k ≤ 2 → named variation field ≡ k → Unit {0}
-    → Completed (named variation) field suc 2 k
-variation-mended field zero h i e u = let z : ⊥ = omega arith in absurd z
-variation-mended field (suc zero) h i e u = variation-fresh field
-variation-mended field (suc (suc zero)) h i e u =
-    let b : eqb (named variation field) 1 ≡ false = rw e in
-    put-from 2 (ascii "E" ∷ []) (((lit< tt, lit< tt), tt), tt)
-    (variation-east (field 1) (sym (variation-is (field 1) (field 2) .is-bad) ∙ b))
-variation-mended field (suc (suc (suc k))) h i e u = let z : ⊥ = omega arith in absurd z
+variation-east : (f : List ℕ) → unread (empty f) (degrees f) ≡ false → variationForm f (ascii "E") .wrong ≡ 0
+unfolding variationForm same
+variation-east f h = sided-good (ascii "E") (ascii "W") (ascii "E") (empty f) true (degrees f) h (λ e. refl) (λ e. refl)
 
 pub prefix-variation : PrefixForm variation
 prefix-variation =
-    prefix-several variation variation-own (λ field. variation-is (field 1) (field 2) .most) variation-decided variation-mended
-    variation-fresh
+    prefix-two variationForm degrees variation-is variation-none (λ f. ascii "E") (λ f. ((lit< tt, lit< tt), tt)) variation-east
