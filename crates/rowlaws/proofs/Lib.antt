@@ -13,3 +13,5 @@ pub mod PlaceSides
 pub mod PlacePosition
 pub mod PlaceZone
 pub mod PlaceDate
+pub mod LikeRow
+pub mod EntryLaws

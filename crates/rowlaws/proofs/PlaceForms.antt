@@ -42,7 +42,7 @@ use Rattle.rowlaws.proofs.PlaceLaws.{Prefix, PrefixForm, prefix-one, pr
 use Rattle.rowlaws.proofs.PlaceRows.{prefix-measured}
 
 -- What one field reads as names no other field; an empty one reads where it may be empty.
-got-most : (o : Option ℕ) → gotOf o .wrong ≤ 1
+pub got-most : (o : Option ℕ) → gotOf o .wrong ≤ 1
 got-most none = lit≤ tt
 got-most (some v) = lit≤ tt
 
