@@ -175,18 +175,13 @@ prefix-entry =
     ⊩ prefix-one (prefix-fixed 2 0 99)))
 
 -- Where it is used; an entry that is not used is blank, by a test that holds of the blank one alone.
-module _ (isBlank : Entry → Bool) (blank-is : (e : Entry) → isBlank e ≡ true → e ≡ blankEntry) (blank-so : isBlank blankEntry ≡ true) where
-  abbrev filled : Entry → ℕ
-  filled e = cond (isBlank e) 0 1
+pub lawful-entryIf : (isBlank : Entry → Bool) → ((e : Entry) → isBlank e ≡ true → e ≡ blankEntry) → isBlank blankEntry ≡ true → (on : Bool)
+    → LawfulForm (onlyIf on (noEntry 0) (λ e. cond (isBlank e) 0 1) entry)
+lawful-entryIf isBlank is so =
+    lawful-onlyIf (noEntry 0) (λ e. cond (isBlank e) 0 1) entry refl (λ e q. sym (is e (zero-one (isBlank e) q))) (rw so) lawful-entry
 
-  filled-is : (e : Entry) → filled e ≡ 0 → blankEntry ≡ e
-  filled-is e q = sym (blank-is e (zero-one (isBlank e) q))
+pub short-entryIf : (filled : Entry → ℕ) (on : Bool) → ShortForm (onlyIf on (noEntry 0) filled entry)
+short-entryIf filled = short-onlyIf (noEntry 0) filled entry short-entry
 
-  pub lawful-entryIf : (on : Bool) → LawfulForm (onlyIf on (noEntry 0) filled entry)
-  lawful-entryIf = lawful-onlyIf (noEntry 0) filled entry refl filled-is (rw blank-so) lawful-entry
-
-  pub short-entryIf : (on : Bool) → ShortForm (onlyIf on (noEntry 0) filled entry)
-  short-entryIf = short-onlyIf (noEntry 0) filled entry short-entry
-
-  pub prefix-entryIf : (on : Bool) → PrefixForm (onlyIf on (noEntry 0) filled entry)
-  prefix-entryIf = prefix-onlyIf (noEntry 0) filled entry refl prefix-entry
+pub prefix-entryIf : (filled : Entry → ℕ) (on : Bool) → PrefixForm (onlyIf on (noEntry 0) filled entry)
+prefix-entryIf filled = prefix-onlyIf (noEntry 0) filled entry refl prefix-entry
