@@ -1,5 +1,5 @@
 -- The forms of one field are lawful: what its text reads as, and what was read, says it.
-use Prim.Native.Nat.{ℕ, suc, _^_, _≤_, _<_}
+use Prim.Native.Nat.{ℕ, suc, _-_, _^_, _≤_, _<_}
 use Prim.Native.String.{String}
 use mathlib.Core.Path.{_≡_, refl, ap, _∙_}
 use mathlib.Core.List.{List}
@@ -13,7 +13,7 @@ use Rattle.digits.specs.Ascii.{ascii}
 use Rattle.digits.specs.Decimal.{printFixed}
 use Rattle.digits.proofs.DecimalLaws.{length-fixed}
 use Rattle.forms.specs.Letters.{emptyWrong, unit}
-use Rattle.forms.specs.Limits.{codeMost, fullCircle, numberMost, stationMost}
+use Rattle.forms.specs.Limits.{codeMost, fullCircle, modes, numberMost, stationMost, statuses}
 use Rattle.forms.specs.Plain.{plainText, widthOf}
 use Rattle.calendar.specs.Dates.{dateSix, sixText}
 use Rattle.masks.specs.Masks.{portMaskForm, satellitesForm, wholeForm}
@@ -77,16 +77,16 @@ pub short-letter : (set : String) → ShortForm (letter set)
 short-letter set = short-single (letterForm (ascii set)) (letter-short (ascii set))
 
 pub lawful-status : LawfulForm status
-lawful-status = lawful-letter "AV" clean-status
+lawful-status = lawful-letter statuses clean-status
 
 pub short-status : ShortForm status
-short-status = short-letter "AV"
+short-status = short-letter statuses
 
 pub lawful-mode : LawfulForm mode
-lawful-mode = lawful-letter "ADEMSN" clean-mode
+lawful-mode = lawful-letter modes clean-mode
 
 pub short-mode : ShortForm mode
-short-mode = short-letter "ADEMSN"
+short-mode = short-letter modes
 
 -- Digits of a fixed width.
 module _ (w lo hi : ℕ) (some : 1 ≤ w) (nine : w ≤ 9) (fit : hi < 10 ^ w) where
@@ -161,11 +161,11 @@ short-height = short-single heightForm height-short
 
 pub lawful-course : LawfulForm course
 lawful-course =
-    lawful-single (belowForm fullCircle) (λ n. below-back 359999 (lit< tt) (n .there) (n .value)) (λ n e. refl) (λ n e. refl)
-    (below-in 359999) (λ n e. field-number n) (λ n e. omega (arith, long-course (n .there) (n .value) e))
+    lawful-single (belowForm fullCircle) (λ n. below-back (fullCircle - 1) (lit< tt) (n .there) (n .value)) (λ n e. refl) (λ n e. refl)
+    (below-in (fullCircle - 1)) (λ n e. field-number n) (λ n e. omega (arith, long-course (n .there) (n .value) e))
 
 pub short-course : ShortForm course
-short-course = short-single (belowForm fullCircle) (below-short 359999)
+short-course = short-single (belowForm fullCircle) (below-short (fullCircle - 1))
 
 -- With their units.
 pub tight-metres : Tight metres

@@ -10,3 +10,10 @@ pub mod PlaceRows
 pub mod PlaceKind
 pub mod PlaceForms
 pub mod PlaceNeeded
+pub mod PlaceSeveral
+pub mod PlaceSides
+pub mod PlacePosition
+pub mod PlaceZone
+pub mod PlaceDate
+pub mod LikeRow
+pub mod EntryLaws

@@ -17,7 +17,7 @@ use Rattle.forms.specs.declared.got.GotInt.{GotInt}
 use Rattle.forms.specs.Fixed.{fixedOf}
 use Rattle.forms.specs.Got.{gotIntOf, gotOf, maybeIntOf, maybeOf, missing, missingInt, pick}
 use Rattle.forms.specs.Letters.{emptyWrong, isIn, letterOf, unit}
-use Rattle.forms.specs.Limits.{fullCircle, stationMost}
+use Rattle.forms.specs.Limits.{fullCircle, modes, stationMost, statuses}
 use Rattle.forms.specs.Number.{belowOf, heightOf, numberOf}
 use Rattle.forms.specs.Plain.{plainText}
 use Rattle.forms.proofs.FixedLaws.{fixed-reads}
@@ -42,7 +42,7 @@ use Rattle.rowlaws.proofs.PlaceLaws.{Prefix, PrefixForm, prefix-one, pr
 use Rattle.rowlaws.proofs.PlaceRows.{prefix-measured}
 
 -- What one field reads as names no other field; an empty one reads where it may be empty.
-got-most : (o : Option ℕ) → gotOf o .wrong ≤ 1
+pub got-most : (o : Option ℕ) → gotOf o .wrong ≤ 1
 got-most none = lit≤ tt
 got-most (some v) = lit≤ tt
 
@@ -194,10 +194,10 @@ prefix-letter set {b} {s} e c =
     prefix-told (letterOf (ascii set)) (b ∷ []) (in-clean (ascii set) b c i, tt) (letter-reads (ascii set) b i)
 
 pub prefix-status : PrefixForm status
-prefix-status = prefix-letter "AV" refl clean-status
+prefix-status = prefix-letter statuses refl clean-status
 
 pub prefix-mode : PrefixForm mode
-prefix-mode = prefix-letter "ADEMSN" refl clean-mode
+prefix-mode = prefix-letter modes refl clean-mode
 
 -- With their units.
 pub prefix-metres : Prefix metres

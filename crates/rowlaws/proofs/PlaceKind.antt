@@ -10,42 +10,58 @@ use Rattle.row.specs.Row.{Row}
 use Rattle.row.specs.Kind.{answerBy, readBy}
 use Rattle.rowlaws.proofs.PlaceLaws.{Agree, namedAt, PrefixBut}
 
-module _ {A G R : Type 0} (refuse : ℕ → ℕ → A) (row : Row G R) {usual : (ℕ → List ℕ) → ℕ → Type 0} (p : PrefixBut row usual)
-    (make : R → A) (field : ℕ → List ℕ) where
-  -- The field that a refusal with 5 names.
-  abbrev at : ℕ
-  at = namedAt row 0 field
+-- Fields that are the same before the one that is named, clean from it on, and read: by what they read as, and by how many they are.
+pub record Readable {A G R : Type 0} (refuse : ℕ → ℕ → A) (row : Row G R) (make : R → A) (field : ℕ → List ℕ) : Type 0 where
+  pub other : ℕ → List ℕ
+  pub before : (j : ℕ) → suc j < namedAt row 0 field → other (suc j) ≡ field (suc j)
+  pub clean : (j : ℕ) → j < row .width → namedAt row 0 field ≤ suc j → Clean (other (suc j))
+  pub answer : answerBy refuse row make (row .got other 0) ≡ make (row .value (row .got other 0))
+  pub read : readBy refuse row make (row .width) other ≡ make (row .value (row .got other 0))
 
-  pub named-within : at ≤ row .width
-  named-within = p .within field 0
+-- The place of a 5 in a kind: it is one of its fields; whatever stands after it, the answer is the same; and what stands before it can be
+-- completed, where that is usual.
+pub record Placed {A G R : Type 0} (refuse : ℕ → ℕ → A) (row : Row G R) (make : R → A) (usual : (ℕ → List ℕ) → Type 0) : Type 0 where
+  pub within : (field : ℕ → List ℕ) → namedAt row 0 field ≤ row .width
+  pub answer-stays : (field other : ℕ → List ℕ) → 0 < namedAt row 0 field → Agree field other suc (namedAt row 0 field)
+      → answerBy refuse row make (row .got other 0) ≡ refuse 5 (namedAt row 0 field)
+  pub stays : (field other : ℕ → List ℕ) → 0 < namedAt row 0 field → Agree field other suc (namedAt row 0 field)
+      → readBy refuse row make (row .width) other ≡ refuse 5 (namedAt row 0 field)
+  pub completed : (field : ℕ → List ℕ) → 0 < namedAt row 0 field → usual field → Readable refuse row make field
 
-  reads-wrong : (o : ℕ → List ℕ) → 0 < namedAt row 0 o → readBy refuse row make (row .width) o ≡ refuse 5 (namedAt row 0 o)
-  unfolding readBy answerBy
-  reads-wrong o h = rw (eq-eqb (row .width) (row .width) refl, ne-eqb (namedAt row 0 o) 0 (λ e. omega arith))
+module _ {A G R : Type 0} (refuse : ℕ → ℕ → A) (row : Row G R) (make : R → A) where
+  -- With as many fields as the row has, the answer is by what they read as.
+  whole-read : (o : ℕ → List ℕ) → readBy refuse row make (row .width) o ≡ answerBy refuse row make (row .got o 0)
+  unfolding readBy
+  whole-read o = rw (eq-eqb (row .width) (row .width) refl)
 
-  reads-good : (o : ℕ → List ℕ) → namedAt row 0 o ≡ 0 → readBy refuse row make (row .width) o ≡ make (row .value (row .got o 0))
-  unfolding readBy answerBy
-  reads-good o e = rw (eq-eqb (row .width) (row .width) refl, eq-eqb (namedAt row 0 o) 0 e)
+  answers-wrong : (o : ℕ → List ℕ) → 0 < namedAt row 0 o → answerBy refuse row make (row .got o 0) ≡ refuse 5 (namedAt row 0 o)
+  unfolding answerBy
+  answers-wrong o h = rw (ne-eqb (namedAt row 0 o) 0 (λ e. omega arith))
 
-  -- Whatever stands after it, the answer is the same.
-  pub named-stays : 0 < at → (other : ℕ → List ℕ) → Agree field other suc at → readBy refuse row make (row .width) other ≡ refuse 5 at
-  named-stays h other s =
-      let e = p .stays field other 0 h (λ j i. ap other (zero-add (suc j)) ∙ s j i ∙ sym (ap field (zero-add (suc j)))) in
-      reads-wrong other (omega (arith, e)) ∙ ap (refuse 5) e
+  answers-good : (o : ℕ → List ℕ) → namedAt row 0 o ≡ 0 → answerBy refuse row make (row .got o 0) ≡ make (row .value (row .got o 0))
+  unfolding answerBy
+  answers-good o e = rw (eq-eqb (namedAt row 0 o) 0 e)
 
-  -- What stands before it can be completed: fields that are the same before it, clean from it on, and read.
-  pub record Readable : Type 0 where
-    pub other : ℕ → List ℕ
-    pub before : (j : ℕ) → suc j < at → other (suc j) ≡ field (suc j)
-    pub clean : (j : ℕ) → j < row .width → at ≤ suc j → Clean (other (suc j))
-    pub read : readBy refuse row make (row .width) other ≡ make (row .value (row .got other 0))
-
-  pub named-completed : 0 < at → usual field 0 → Readable
-  named-completed h u =
-      let c = p .completed field 0 h u in
+  pub placed : {usual : (ℕ → List ℕ) → ℕ → Type 0} → PrefixBut row usual → Placed refuse row make (λ field. usual field 0)
+  placed p =
       record {
-        other = c .other;
-        before = λ j i. sym (ap (c .other) (zero-add (suc j))) ∙ c .before j i ∙ ap field (zero-add (suc j));
-        clean = λ j i k. subst Clean (ap (c .other) (zero-add (suc j))) (c .clean j i k);
-        read = reads-good (c .other) (c .accepted);
+        within = λ field. p .within field 0;
+        answer-stays = stays;
+        stays = λ field other h s. whole-read other ∙ stays field other h s;
+        completed = λ field h u.
+            let c = p .completed field 0 h u in
+            let good = answers-good (c .other) (c .accepted) in
+            record {
+              other = c .other;
+              before = λ j i. sym (ap (c .other) (zero-add (suc j))) ∙ c .before j i ∙ ap field (zero-add (suc j));
+              clean = λ j i k. subst Clean (ap (c .other) (zero-add (suc j))) (c .clean j i k);
+              answer = good;
+              read = whole-read (c .other) ∙ good;
+            };
       }
+    where
+      stays : (field other : ℕ → List ℕ) → 0 < namedAt row 0 field → Agree field other suc (namedAt row 0 field)
+          → answerBy refuse row make (row .got other 0) ≡ refuse 5 (namedAt row 0 field)
+      stays field other h s =
+          let e = p .stays field other 0 h (λ j i. ap other (zero-add (suc j)) ∙ s j i ∙ sym (ap field (zero-add (suc j)))) in
+          answers-wrong other (omega (arith, e)) ∙ ap (refuse 5) e

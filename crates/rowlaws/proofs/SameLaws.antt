@@ -10,7 +10,7 @@ use lib.ListN.{length, getD, List·getD-append}
 use borrow.Author.Tests.{ltb-true, ltb-false}
 use Rattle.fields.specs.Fields.{joinFields}
 use Rattle.trips.proofs.SameTexts.{exact-same, fixed-same}
-use Rattle.row.specs.Row.{Form, Row, one, onlyIf, _▷_}
+use Rattle.row.specs.Row.{Form, Row, one, made, onlyIf, _▷_}
 use Rattle.row.specs.Forms.{exact, fixed}
 use Rattle.row.specs.Kind.{fieldsFor}
 use Rattle.rowlaws.proofs.Laws.{_⊳_, Begins, Lawful, LawfulForm, lawful-one, near-zero}
@@ -83,6 +83,15 @@ module _ {G X H Y : Type 0} {a : Row G X} {b : Row H Y} (p : Keeps a) (q : Keeps
             joined field n k (a .value g) after (p .1 .same field n after (x .0)) (q .1 .same field (n + a .width) rest (y .0)) h
             (ltb k (a .width)) refl;
       })
+
+-- The values of a row as a record.
+pub same-made : {G X R : Type 0} (to : X → R) (from : R → X) (a : Row G X) (there : (v : X) → from (to v) ≡ v) → Same a → Same
+    (made to from a)
+same-made {X = X} to from a there s =
+    record {
+      same = λ field n rest e.
+          subst (λ (v : X). Begins field n (a .width) (a .text v rest)) (sym (there (a .value (a .got field n)))) (s .same field n rest e);
+    }
 
 -- Lists that agree in every place are the same.
 alike-lists : (s t : List (List ℕ)) → length s ≡ length t → ((k : ℕ) → k < length s → getD s k [] ≡ getD t k []) → s ≡ t

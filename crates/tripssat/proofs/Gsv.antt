@@ -14,34 +14,31 @@ use Rattle.address.specs.declared.Kind.the-variants as K
 use Rattle.address.specs.declared.Talker.{Talker}
 use Rattle.address.specs.Address.{knownOf}
 use Rattle.digits.specs.Ascii.{ascii}
-use Rattle.digits.proofs.Bools.{and-both, and-left, and-right, true-false}
+use Rattle.digits.proofs.Bools.{and-both, and-left, and-right}
 use Rattle.digits.proofs.DecimalLaws.{length-fixed}
 use Rattle.line.specs.Line.{asLine}
 use Rattle.reading.specs.Lines.{addressed, readLine}
-use Rattle.records.specs.Blank.{blankEntry, blankGsa, isBlank, isMissing}
+use Rattle.records.specs.Blank.{blankEntry, blankGsa, isBlank}
 use Rattle.records.specs.Wrong.{After, nearOf}
 use Rattle.records.specs.declared.Entry.{Entry}
 use Rattle.records.specs.declared.Gsv.{Gsv}
 use Rattle.records.specs.declared.Reading.{Reading}
 use Rattle.records.specs.declared.Sentence.the-variants as S
-use Rattle.records.specs.declared.values.Maybe.{Maybe}
 use Rattle.forms.specs.Got.{pick}
-use Rattle.kinds.specs.Kinds.{exactForm, fixedForm}
 use Rattle.ranges.specs.Ranges.{outside}
 use Rattle.row.specs.Row.{one}
 use Rattle.row.specs.Kind.{answerBy, faultBy, fieldsFor, readBy}
-use Rattle.satellites.specs.declared.gsv.GotEntry.{GotEntry}
-use Rattle.satellites.specs.View.{entriesOf, entry, entryAt, entryFrom, entryIf, firstOf, gsvBeside, gsvMade, gsvOf, gsvRow, gsvWith, noEntry, refused}
+use Rattle.satellites.specs.View.{entriesOf, entryIf, firstOf, gsvBeside, gsvMade, gsvOf, gsvRow, gsvWith, refused}
 use Rattle.sealing.specs.Body.{talkerText}
 use Rattle.sealing.specs.Written as W
-use Rattle.trips.proofs.Clean.{Clean, clean-fixed}
+use Rattle.trips.proofs.Clean.{Clean}
 use Rattle.trips.proofs.CleanTexts.{joined-length, total, total-append}
-use Rattle.trips.proofs.FieldTexts.{field-fixed, long-fixed}
+use Rattle.trips.proofs.FieldTexts.{long-fixed}
 use Rattle.trips.proofs.Known.{Zero, address-clean, address-five, all-zero, known-gsv, zero-all}
-use Rattle.trips.proofs.Ranged.{exact-in, fixed-in}
-use Rattle.trips.proofs.Values.{exact-back, fixed-back}
+use Rattle.trips.proofs.Values.{zero-one}
 use Rattle.writesat.specs.Gsv.{entryAfters, entryFields, entryOf, gsvBody, gsvFault, gsvFields, gsvValues, gsvWrong, restBlank, used}
-use Rattle.rowlaws.proofs.Laws.{_⊳_, Begins, Lawful, LawfulForm, lawful-one, lawful-onlyIf, near-zero}
+use Rattle.rowlaws.proofs.Laws.{_⊳_, Lawful, lawful-one, near-zero}
+use Rattle.rowlaws.proofs.EntryLaws.{lawful-entryIf}
 use Rattle.rowlaws.proofs.FormLaws.{lawful-exact}
 use Rattle.rowlaws.proofs.Trips.{line-back, read-in-range}
 use Rattle.tripssat.proofs.Lists.{all-four}
@@ -88,102 +85,7 @@ none-first : (a b c d : ℕ) → a ≡ 0 → b ≡ 0 → c ≡ 0 → d ≡ 0 →
 unfolding firstOf
 none-first a b c d p q r s = rw (p, q, r, s)
 
--- An entry is lawful: four good values make it, and it is made of four good values.
-entry-back : (e : Entry) → entry .fault e ≡ 0 → (field : ℕ → List ℕ) → Begins field 0 4 (entry .text e)
-    → entry .got field ≡ record { wrong = 0; entry = e }
-unfolding entryFrom entryAt firstOf
-entry-back e f field b =
-    let z = first-none _ _ _ _ f in
-    rw (
-      b 0 (lit< tt),
-      b 1 (lit< tt),
-      b 2 (lit< tt),
-      b 3 (lit< tt),
-      exact-back 2 1 99 (lit≤ tt) (lit≤ tt) (lit< tt) (e .number) (z .0),
-      fixed-back 2 0 90 (lit≤ tt) (lit≤ tt) (lit< tt) (e .elevation .there) (e .elevation .value) (z .1 .0),
-      fixed-back 3 0 359 (lit≤ tt) (lit≤ tt) (lit< tt) (e .azimuth .there) (e .azimuth .value) (z .1 .1 .0),
-      fixed-back 2 0 99 (lit≤ tt) (lit≤ tt) (lit< tt) (e .signal .there) (e .signal .value) (z .1 .1 .1),
-    )
-
-module _ (field : ℕ → List ℕ) where
-  abbrev wrong : ℕ
-  wrong =
-      firstOf (exactForm 2 1 99 (field 1) .wrong) (fixedForm 2 0 90 (field 2) .wrong) (fixedForm 3 0 359 (field 3) .wrong)
-      (fixedForm 2 0 99 (field 4) .wrong)
-
-  abbrev at : ℕ → GotEntry
-  at w = entryAt w (exactForm 2 1 99 (field 1)) (fixedForm 2 0 90 (field 2)) (fixedForm 3 0 359 (field 3)) (fixedForm 2 0 99 (field 4))
-
-  sound-at : (w : ℕ) → wrong ≡ w → at w .wrong ≡ 0 → entry .fault (at w .entry) ≡ 0
-  unfolding entryAt
-  sound-at zero q e =
-      let z = first-none _ _ _ _ q in
-      none-first _ _ _ _ (exact-in 2 1 99 (field 1) (z .0)) (fixed-in 2 0 90 (field 2) (z .1 .0)) (fixed-in 3 0 359 (field 3) (z .1 .1 .0))
-      (fixed-in 2 0 99 (field 4) (z .1 .1 .1))
-  sound-at (suc w) q e =
-      let f : suc w ≡ 0 = rw (ne-eqb (suc w) 0 (λ g. omega arith)) at e in
-      let i : ⊥ = omega (arith, f) in
-      absurd i
-
-  entry-sound : entry .wrong (entry .got field) ≡ 0 → entry .fault (entry .value (entry .got field)) ≡ 0
-  unfolding entryFrom
-  entry-sound e = sound-at wrong refl e
-
-lawful-entry : LawfulForm entry
-lawful-entry =
-    record {
-      back = λ e f field b.
-          let q = entry-back e f field b in
-          (ap (λ (g : GotEntry). g .wrong) q, ap (λ (g : GotEntry). g .entry) q);
-      sound = entry-sound;
-      count = λ e. refl;
-      clean = λ e f. (clean-fixed 2 (e .number), (field-fixed 2 (e .elevation), (field-fixed 3 (e .azimuth), (field-fixed 2 (e .signal), tt))));
-      long = λ e f.
-          omega (arith, length-fixed 2 (e .number), long-fixed 2 (e .elevation), long-fixed 3 (e .azimuth), long-fixed 2 (e .signal));
-    }
-
--- A blank entry is the blank entry.
-missing-is : (m : Maybe) → isMissing m ≡ true → m ≡ record { there = false; value = 0 }
-missing-is m e = go (m .there) refl
-  where
-    v : m .value ≡ 0
-    v = eqb-true (m .value) 0 (and-right (not (m .there)) _ e)
-
-    go : (t : Bool) → m .there ≡ t → m ≡ record { there = false; value = 0 }
-    go true q = absurd (true-false (and-left (not (m .there)) (eqb (m .value) 0) e) (ap not q))
-    go false q = ap (λ (t : Bool). record { there = t; value = m .value }) q ∙ ap (λ (x : ℕ). record { there = false; value = x }) v
-
-pub blank-is : (e : Entry) → isBlank e ≡ true → e ≡ blankEntry
-unfolding isBlank
-blank-is e b =
-    let n = eqb-true (e .number) 0 (and-left _ _ b) in
-    let b1 = and-right (eqb (e .number) 0) _ b in
-    let b2 = and-right (isMissing (e .elevation)) _ b1 in
-    let x = missing-is (e .elevation) (and-left _ _ b1) in
-    let y = missing-is (e .azimuth) (and-left _ _ b2) in
-    let w = missing-is (e .signal) (and-right (isMissing (e .azimuth)) _ b2) in
-    sym (made (e .number) (e .elevation) (e .azimuth) (e .signal) n x y w)
-  where
-    made : (n : ℕ) (a b c : Maybe) → n ≡ 0 → a ≡ record { there = false; value = 0 } → b ≡ record { there = false; value = 0 }
-        → c ≡ record { there = false; value = 0 } → blankEntry ≡ record { number = n; elevation = a; azimuth = b; signal = c }
-    made n a b c p q s u = rw (p, q, s, u)
-
-blank-told : (e : Entry) → _≡_ {A = ℕ} (cond (isBlank e) 0 1) 0 → isBlank e ≡ true
-blank-told e q = go (isBlank e) q
-  where
-    go : (b : Bool) → _≡_ {A = ℕ} (cond b 0 1) 0 → b ≡ true
-    go true i = refl
-    go false i = let z : ⊥ = omega (arith, i) in absurd z
-
-blank-good : _≡_ {A = ℕ} (cond (isBlank blankEntry) 0 1) 0
-unfolding isBlank
-blank-good = refl
-
--- An entry that is used or not, and the row of so many.
-pub lawful-entryIf : (on : Bool) → LawfulForm (entryIf on)
-lawful-entryIf on =
-    lawful-onlyIf (noEntry 0) (λ e. cond (isBlank e) 0 1) entry refl (λ e q. sym (blank-is e (blank-told e q))) blank-good lawful-entry on
-
+-- The row of so many entries is lawful.
 pub lawful-gsv : (count : ℕ) → Lawful (gsvRow count)
 unfolding gsvRow
 lawful-gsv count =
@@ -198,7 +100,7 @@ to-form false n e z b = rw b
 
 from-form : (on : Bool) (n : ℕ) (e : Entry) → entryIf on .fault e ≡ 0 → Zero (entryAfters on n e) × ((on || isBlank e) ≡ true)
 from-form true n e q = let z = first-none _ _ _ _ q in ((z .0, (z .1 .0, (z .1 .1 .0, (z .1 .1 .1, tt)))), refl)
-from-form false n e q = (tt, blank-told e q)
+from-form false n e q = (tt, zero-one (isBlank e) q)
 
 zero-append : (l m : List After) → Zero l → Zero m → Zero (l ++ m)
 zero-append [] m p q = q

@@ -32,7 +32,6 @@ use Rattle.fields.specs.Places.{theFields}
 use Rattle.fields.proofs.Joining.{join-fields, joinAll}
 use Rattle.fields.proofs.Splitting.{first-field}
 use Rattle.forms.specs.Got.{pick}
-use Rattle.kinds.specs.Kinds.{exactForm, fixedForm}
 use Rattle.line.specs.Line.{asLine, bodyOf, lineRefusal}
 use Rattle.line.proofs.Form.{accepted}
 use Rattle.navigation.specs.Gga.{ggaRow}
@@ -42,23 +41,22 @@ use Rattle.navigation.specs.Vtg.{vtgRow}
 use Rattle.navigation.specs.Zda.{zdaRow}
 use Rattle.reading.specs.Lines.{addressed, readBody, readLine}
 use Rattle.reading.proofs.Order.{sound}
-use Rattle.records.specs.Blank.{aloneOf, isBlank}
+use Rattle.records.specs.Blank.{aloneOf}
 use Rattle.records.specs.declared.Reading.{Reading}
 use Rattle.records.specs.declared.Sentence.{Sentence}
 use Rattle.records.specs.declared.Sentence.the-variants as S
 use Rattle.row.specs.Kind.{answerBy, readBy}
 use Rattle.row.specs.Row.{Row, one}
 use Rattle.satellites.specs.Active.{gsaBeside, gsaMade, gsaRow}
-use Rattle.satellites.specs.declared.gsv.GotEntry.{GotEntry}
-use Rattle.satellites.specs.View.{entriesOf, entry, entryAt, entryFrom, entryIf, firstOf, gsvBeside, gsvMade, gsvOf, gsvRow, gsvWith, noEntry}
+use Rattle.satellites.specs.View.{entriesOf, entryIf, gsvBeside, gsvMade, gsvOf, gsvRow, gsvWith}
 use Rattle.satellites.specs.View as View
 use Rattle.sealing.specs.Body.{talkerText}
-use Rattle.trips.proofs.SameTexts.{address-same, exact-same, fixed-same}
+use Rattle.trips.proofs.SameTexts.{address-same}
 use Rattle.writesat.specs.Gsv.{gsvBody, gsvFields}
-use Rattle.rowlaws.proofs.Laws.{Begins}
 use Rattle.rowlaws.proofs.FormLaws.{lawful-exact}
-use Rattle.rowlaws.proofs.SameLaws.{_⊜_, Keeps, fields-same, keeps-one, SameForm, same-exact, same-onlyIf}
-use Rattle.tripssat.proofs.Gsv.{Good, first-none, lawful-entryIf, theGsv, write-read}
+use Rattle.rowlaws.proofs.SameLaws.{_⊜_, Keeps, fields-same, keeps-one, same-exact}
+use Rattle.rowlaws.proofs.EntryLaws.{lawful-entryIf, same-entryIf}
+use Rattle.tripssat.proofs.Gsv.{Good, write-read}
 
 -- Whether a sentence is GSV.
 abbrev isGsv : Sentence → Bool
@@ -171,50 +169,14 @@ gsv-good l t e =
     Held : Reading → Type 0
     Held r = r .sentence ≡ S.Gsv t → (length (r .gsv .entries) ≡ 4) × Good (r .gsv)
 
--- An entry without a wrong field is written as its own four fields.
-module _ (field : ℕ → List ℕ) where
-  abbrev wrong : ℕ
-  wrong =
-      firstOf (exactForm 2 1 99 (field 1) .wrong) (fixedForm 2 0 90 (field 2) .wrong) (fixedForm 3 0 359 (field 3) .wrong)
-      (fixedForm 2 0 99 (field 4) .wrong)
-
-  abbrev at : ℕ → GotEntry
-  at w = entryAt w (exactForm 2 1 99 (field 1)) (fixedForm 2 0 90 (field 2)) (fixedForm 3 0 359 (field 3)) (fixedForm 2 0 99 (field 4))
-
-  own : (w : ℕ) → wrong ≡ w → at w .wrong ≡ 0 → entry .text (at w .entry) ≡ field 1 ∷ field 2 ∷ field 3 ∷ field 4 ∷ []
-  unfolding entryAt
-  own zero q e =
-      let z = first-none _ _ _ _ q in
-      rw (
-        exact-same 2 1 99 (field 1) (z .0),
-        fixed-same 2 0 90 (field 2) (z .1 .0),
-        fixed-same 3 0 359 (field 3) (z .1 .1 .0),
-        fixed-same 2 0 99 (field 4) (z .1 .1 .1),
-      )
-  own (suc w) q e =
-      let f : suc w ≡ 0 = rw (ne-eqb (suc w) 0 (λ g. omega arith)) at e in
-      let i : ⊥ = omega (arith, f) in
-      absurd i
-
-  in-place : (t : List (List ℕ)) → t ≡ field 1 ∷ field 2 ∷ field 3 ∷ field 4 ∷ [] → Begins field 0 4 t
-  in-place t e zero h = ap (λ (x : List (List ℕ)). getD x 0 []) (sym e)
-  in-place t e (suc zero) h = ap (λ (x : List (List ℕ)). getD x 1 []) (sym e)
-  in-place t e (suc (suc zero)) h = ap (λ (x : List (List ℕ)). getD x 2 []) (sym e)
-  in-place t e (suc (suc (suc zero))) h = ap (λ (x : List (List ℕ)). getD x 3 []) (sym e)
-  in-place t e (suc (suc (suc (suc k)))) h = let z : ⊥ = omega arith in absurd z
-
-  entry-same : entry .wrong (entry .got field) ≡ 0 → Begins field 0 4 (entry .text (entry .value (entry .got field)))
-  unfolding entryFrom
-  entry-same e = in-place _ (own wrong refl e)
-
+-- The row of so many entries keeps the bytes.
 keeps-gsv : (count : ℕ) → Keeps (gsvRow count)
 unfolding gsvRow
 keeps-gsv count =
     let digit = keeps-one (lawful-exact 1 1 9 (lit≤ tt) (lit≤ tt) (lit< tt)) (same-exact 1 1 9) in
     let all = keeps-one (lawful-exact 2 0 99 (lit≤ tt) (lit≤ tt) (lit< tt)) (same-exact 2 0 99) in
-    let one-same : SameForm entry = record { same = entry-same } in
     let entry-of : (k : ℕ) → Keeps (one (entryIf (ltb k count))) = λ k.
-        keeps-one (lawful-entryIf (ltb k count)) (same-onlyIf (noEntry 0) (λ e. cond (isBlank e) 0 1) entry one-same (ltb k count)) in
+        keeps-one (lawful-entryIf (ltb k count)) (same-entryIf (ltb k count)) in
     digit ⊜ digit ⊜ all ⊜ entry-of 0 ⊜ entry-of 1 ⊜ entry-of 2 ⊜ entry-of 3
 
 -- A GSV sentence is given only with at most four entries and no wrong field.
@@ -272,7 +234,8 @@ module _ (l : List ℕ) (t : Talker) (e : readLine l .sentence ≡ S.Gsv t) wher
       go : (a : List ℕ) (fs : List (List ℕ)) → fieldsOf (bodyOf l) ≡ a ∷ fs → gsvBody t (readLine l .gsv) ≡ bodyOf l
       go a fs q =
           let many : length fs ≡ gsvRow entries .width = omega (arith, entries-are (number l) (read-told .0), ap length q) in
-          let wrong : gsvRow entries .wrong (gsvRow entries .got (λ k. getD (a ∷ fs) k []) 0) 0 0 ≡ 0 = rw q at (read-told .1) in
+          let wrong : gsvRow entries .wrong (gsvRow entries .got (λ k. getD (a ∷ fs) k []) 0) 0 0 ≡ 0 = 
+              subst (λ (x : List (List ℕ)). gsvRow entries .wrong (gsvRow entries .got (λ k. getD x k []) 0) 0 0 ≡ 0) q (read-told .1) in
           let address : a ≡ talkerText t ++ ascii "GSV" = rw q at (address-same (bodyOf l) t K.Gsv (way l t e .1)) in
           ap (gsvBody t) (read-told .2)
           ∙ ap (λ (x : List (List ℕ)). joinFields (talkerText t ++ ascii "GSV") x)
