@@ -15,7 +15,7 @@ use Rattle.calendar.specs.Calendar.{leapYear, daysIn, isDate}
 use Rattle.fields.specs.Fields.{joinFields}
 use Rattle.forms.specs.Letters.{isIn}
 use Rattle.forms.specs.Plain.{fractionText, numberText, plainText, widthOf}
-use Rattle.records.specs.Wrong.{firstWrong, nearOf}
+use Rattle.records.specs.Wrong.{nearOf}
 use Rattle.records.specs.declared.CodeTold.{CodeTold}
 use Rattle.records.specs.declared.Gga.{Gga}
 use Rattle.records.specs.declared.Gsa.{Gsa}
@@ -26,11 +26,16 @@ use Rattle.records.specs.declared.Sentence.the-variants as S
 use Rattle.records.specs.declared.values.Number.{Number}
 use Rattle.ranges.specs.Ranges.{letterWrong, outside, placeWrong, rangeWrong, signedWrong, sixWrong}
 use Rattle.reading.specs.Lines.{readLine}
-use Rattle.tripscom.proofs.Pirea as TPirea
-use Rattle.writecom.specs.Pirea.{pireaBody, pireaWrong}
-use Rattle.writenav.specs.Gga.{ggaBody, ggaFields, ggaWrong}
-use Rattle.writenav.specs.Rmc.{rmcBody, rmcFields, rmcWrong}
-use Rattle.writesat.specs.Gsa.{gsaBody, gsaFields, gsaWrong}
+use Rattle.writecom.specs.Pirea.{pireaBody}
+use Rattle.writenav.specs.Gga.{ggaBody, ggaWrong}
+use Rattle.writenav.specs.Rmc.{rmcBody, rmcWrong}
+use Rattle.writesat.specs.Gsa.{gsaBody, gsaWrong}
+use Rattle.tripscom.proofs.Commands as C
+use Rattle.row.specs.Kind.{faultBy, fieldsFor}
+use Rattle.navigation.specs.Gga.{ggaRow}
+use Rattle.navigation.specs.Rmc.{rmcRow}
+use Rattle.satellites.specs.Active.{gsaRow}
+use Rattle.commands.specs.Pirea.{pireaRow}
 
 -- Numbers of six digits before the point and three behind it.
 abbrev pub most : Number
@@ -51,7 +56,7 @@ longGga =
     }
 
 pub gga-can-pass : (ggaWrong longGga ≡ 0) × (82 < length (asLine (ggaBody Gp longGga)))
-unfolding ggaWrong ggaFields firstWrong nearOf rangeWrong outside placeWrong signedWrong joinFields numberText plainText widthOf fractionText printFixed
+unfolding faultBy fieldsFor ggaRow nearOf rangeWrong outside placeWrong signedWrong joinFields numberText plainText widthOf fractionText printFixed
 gga-can-pass = (refl, lit< tt)
 
 abbrev pub longRmc : Rmc
@@ -68,14 +73,14 @@ longRmc =
     }
 
 pub rmc-can-pass : (rmcWrong longRmc ≡ 0) × (82 < length (asLine (rmcBody Gp longRmc)))
-unfolding rmcWrong rmcFields firstWrong nearOf rangeWrong outside placeWrong signedWrong sixWrong isDate daysIn leapYear letterWrong isIn joinFields numberText plainText widthOf fractionText printFixed
+unfolding faultBy fieldsFor rmcRow nearOf rangeWrong outside placeWrong signedWrong sixWrong isDate daysIn leapYear letterWrong isIn joinFields numberText plainText widthOf fractionText printFixed
 rmc-can-pass = (refl, lit< tt)
 
 abbrev pub longGsa : Gsa
 longGsa = record { selection = 65; fix = 3; satellites = replicate 12 (record { there = true; value = 5 }); pdop = most; hdop = most; vdop = most }
 
 pub gsa-can-pass : (gsaWrong longGsa ≡ 0) × (82 < length (asLine (gsaBody Gp longGsa)))
-unfolding gsaWrong gsaFields firstWrong nearOf rangeWrong outside letterWrong isIn joinFields numberText plainText widthOf fractionText printFixed
+unfolding gsaWrong gsaFields faultBy fieldsFor gsaRow nearOf rangeWrong outside letterWrong isIn joinFields numberText plainText widthOf fractionText printFixed
 gsa-can-pass = (refl, lit< tt)
 
 -- One line is not written for two records: what differs when read differs when written.
@@ -104,8 +109,8 @@ codeOf (S.Sa r) = 0
 codeOf (S.Refused n f) = 0
 
 pub no-constant-writer : (line : List ℕ) → asLine (pireaBody (code 0)) ≡ line → asLine (pireaBody (code 1)) ≡ line → ⊥
-unfolding pireaWrong firstWrong nearOf outside
+unfolding faultBy pireaRow nearOf outside
 no-constant-writer line e f =
-    different-bytes (asLine (pireaBody (code 0))) (asLine (pireaBody (code 1))) _ _ (TPirea.read-write (code 0) refl) (TPirea.read-write (code 1) refl)
+    different-bytes (asLine (pireaBody (code 0))) (asLine (pireaBody (code 1))) _ _ (C.pirea .read-write (code 0) refl) (C.pirea .read-write (code 1) refl)
     (λ q. let z : _≡_ {A = ℕ} 0 1 = ap (λ (r : Reading). codeOf (r .sentence)) q in omega (arith, z))
     (e ∙ sym f)

@@ -42,33 +42,24 @@ use Rattle.writesat.specs.Gsa.{gsaWrong, gsaFields, gsaBody}
 use Rattle.writesat.specs.Gsv.{gsvFault, gsvBody}
 use Rattle.tripssat.proofs.Gsa as TGsa
 use Rattle.tripssat.proofs.Gsv as TGsv
-use Rattle.tripssat.proofs.GsvRead as TGsvRead
 use Rattle.writenav.specs.Gga.{ggaWrong, ggaFields, ggaBody}
-use Rattle.tripsnav.proofs.Gga as TGga
 use Rattle.writenav.specs.Gll.{gllWrong, gllBody}
-use Rattle.tripsnav.proofs.Gll as TGll
 use Rattle.writenav.specs.Rmc.{rmcWrong, rmcFields, rmcBody}
-use Rattle.tripsnav.proofs.Rmc as TRmc
 use Rattle.writenav.specs.Vtg.{vtgWrong, vtgBody}
-use Rattle.tripsnav.proofs.Vtg as TVtg
 use Rattle.writenav.specs.Zda.{zdaWrong, zdaBody}
-use Rattle.tripsnav.proofs.Zda as TZda
 use Rattle.writecom.specs.Pirpr.{pirprWrong, pirprBody}
-use Rattle.tripscom.proofs.Pirpr as TPirpr
 use Rattle.writecom.specs.Pirtr.{pirtrWrong, pirtrBody}
-use Rattle.tripscom.proofs.Pirtr as TPirtr
 use Rattle.writecom.specs.Pirsr.{pirsrWrong, pirsrBody}
-use Rattle.tripscom.proofs.Pirsr as TPirsr
 use Rattle.writecom.specs.Pirpa.{pirpaWrong, pirpaBody}
-use Rattle.tripscom.proofs.Pirpa as TPirpa
 use Rattle.writecom.specs.Pirta.{pirtaWrong, pirtaBody}
-use Rattle.tripscom.proofs.Pirta as TPirta
 use Rattle.writecom.specs.Pirsa.{pirsaWrong, pirsaBody}
-use Rattle.tripscom.proofs.Pirsa as TPirsa
 use Rattle.writecom.specs.Pirea.{pireaWrong, pireaBody}
-use Rattle.tripscom.proofs.Pirea as TPirea
 use Rattle.writecom.specs.Pirer.{pirerBody}
-use Rattle.tripscom.proofs.Pirer as TPirer
+use Rattle.tripsnav.proofs.Navigation as N
+use Rattle.tripscom.proofs.Commands as C
+use Rattle.rowlaws.proofs.Laws.{Begins, bytes}
+use Rattle.writesat.proofs.GoodLaws.{fault-none}
+use native.Mathlib.Nat.{zero-add}
 
 -- In range, and its line fits.
 abbrev pub Fits : List ℕ → Type 0
@@ -136,99 +127,27 @@ address-long body t k e = go (eqb (getD body 5 0) 44 && commaFree (take 5 body))
 body-long : (body f : List ℕ) (fs : List (List ℕ)) → fieldsOf body ≡ f ∷ fs → length body ≡ length f + total fs
 body-long body f fs e = sym (ap length (ap joinAll (sym e) ∙ join-fields body)) ∙ joined-length f fs
 
-all-12 : (l : List (List ℕ)) → length l ≡ 12 → getD l 0 [] ∷ getD l 1 [] ∷ getD l 2 [] ∷ getD l 3 [] ∷ getD l 4 [] ∷ getD l 5 [] ∷ getD l 6 [] ∷ getD l 7 [] ∷ getD l 8 [] ∷ getD l 9 [] ∷ getD l 10 [] ∷ getD l 11 [] ∷ [] ≡ l
-all-12 [] h = let z : ⊥ = omega arith in absurd z
-all-12 (x0 ∷ []) h = let z : ⊥ = omega arith in absurd z
-all-12 (x0 ∷ x1 ∷ []) h = let z : ⊥ = omega arith in absurd z
-all-12 (x0 ∷ x1 ∷ x2 ∷ []) h = let z : ⊥ = omega arith in absurd z
-all-12 (x0 ∷ x1 ∷ x2 ∷ x3 ∷ []) h = let z : ⊥ = omega arith in absurd z
-all-12 (x0 ∷ x1 ∷ x2 ∷ x3 ∷ x4 ∷ []) h = let z : ⊥ = omega arith in absurd z
-all-12 (x0 ∷ x1 ∷ x2 ∷ x3 ∷ x4 ∷ x5 ∷ []) h = let z : ⊥ = omega arith in absurd z
-all-12 (x0 ∷ x1 ∷ x2 ∷ x3 ∷ x4 ∷ x5 ∷ x6 ∷ []) h = let z : ⊥ = omega arith in absurd z
-all-12 (x0 ∷ x1 ∷ x2 ∷ x3 ∷ x4 ∷ x5 ∷ x6 ∷ x7 ∷ []) h = let z : ⊥ = omega arith in absurd z
-all-12 (x0 ∷ x1 ∷ x2 ∷ x3 ∷ x4 ∷ x5 ∷ x6 ∷ x7 ∷ x8 ∷ []) h = let z : ⊥ = omega arith in absurd z
-all-12 (x0 ∷ x1 ∷ x2 ∷ x3 ∷ x4 ∷ x5 ∷ x6 ∷ x7 ∷ x8 ∷ x9 ∷ []) h = let z : ⊥ = omega arith in absurd z
-all-12 (x0 ∷ x1 ∷ x2 ∷ x3 ∷ x4 ∷ x5 ∷ x6 ∷ x7 ∷ x8 ∷ x9 ∷ x10 ∷ []) h = let z : ⊥ = omega arith in absurd z
-all-12 (x0 ∷ x1 ∷ x2 ∷ x3 ∷ x4 ∷ x5 ∷ x6 ∷ x7 ∷ x8 ∷ x9 ∷ x10 ∷ x11 ∷ []) h = refl
-all-12 (x0 ∷ x1 ∷ x2 ∷ x3 ∷ x4 ∷ x5 ∷ x6 ∷ x7 ∷ x8 ∷ x9 ∷ x10 ∷ x11 ∷ x ∷ l) h = let z : ⊥ = omega arith in absurd z
+-- As many fields as a body has after its address are as long as the rest of it.
+bytes-total : (field : ℕ → List ℕ) (n : ℕ) (fs : List (List ℕ)) → Begins field n (length fs) fs → bytes field n (length fs) ≡ total fs
+bytes-total field n [] b = refl
+bytes-total field n (f ∷ fs) b =
+    let first : field (n + 1) ≡ f = b 0 (omega arith) in
+    let next : Begins field (n + 1) (length fs) fs = λ k h. let i : n + 1 + suc k ≡ n + suc (suc k) = omega arith in
+        ap field i ∙ b (suc k) (omega (arith, h)) in
+    omega (arith, ap length first, bytes-total field (n + 1) fs next)
 
-all-14 : (l : List (List ℕ)) → length l ≡ 14 → getD l 0 [] ∷ getD l 1 [] ∷ getD l 2 [] ∷ getD l 3 [] ∷ getD l 4 [] ∷ getD l 5 [] ∷ getD l 6 [] ∷ getD l 7 [] ∷ getD l 8 [] ∷ getD l 9 [] ∷ getD l 10 [] ∷ getD l 11 [] ∷ getD l 12 [] ∷ getD l 13 [] ∷ [] ≡ l
-all-14 [] h = let z : ⊥ = omega arith in absurd z
-all-14 (x0 ∷ []) h = let z : ⊥ = omega arith in absurd z
-all-14 (x0 ∷ x1 ∷ []) h = let z : ⊥ = omega arith in absurd z
-all-14 (x0 ∷ x1 ∷ x2 ∷ []) h = let z : ⊥ = omega arith in absurd z
-all-14 (x0 ∷ x1 ∷ x2 ∷ x3 ∷ []) h = let z : ⊥ = omega arith in absurd z
-all-14 (x0 ∷ x1 ∷ x2 ∷ x3 ∷ x4 ∷ []) h = let z : ⊥ = omega arith in absurd z
-all-14 (x0 ∷ x1 ∷ x2 ∷ x3 ∷ x4 ∷ x5 ∷ []) h = let z : ⊥ = omega arith in absurd z
-all-14 (x0 ∷ x1 ∷ x2 ∷ x3 ∷ x4 ∷ x5 ∷ x6 ∷ []) h = let z : ⊥ = omega arith in absurd z
-all-14 (x0 ∷ x1 ∷ x2 ∷ x3 ∷ x4 ∷ x5 ∷ x6 ∷ x7 ∷ []) h = let z : ⊥ = omega arith in absurd z
-all-14 (x0 ∷ x1 ∷ x2 ∷ x3 ∷ x4 ∷ x5 ∷ x6 ∷ x7 ∷ x8 ∷ []) h = let z : ⊥ = omega arith in absurd z
-all-14 (x0 ∷ x1 ∷ x2 ∷ x3 ∷ x4 ∷ x5 ∷ x6 ∷ x7 ∷ x8 ∷ x9 ∷ []) h = let z : ⊥ = omega arith in absurd z
-all-14 (x0 ∷ x1 ∷ x2 ∷ x3 ∷ x4 ∷ x5 ∷ x6 ∷ x7 ∷ x8 ∷ x9 ∷ x10 ∷ []) h = let z : ⊥ = omega arith in absurd z
-all-14 (x0 ∷ x1 ∷ x2 ∷ x3 ∷ x4 ∷ x5 ∷ x6 ∷ x7 ∷ x8 ∷ x9 ∷ x10 ∷ x11 ∷ []) h = let z : ⊥ = omega arith in absurd z
-all-14 (x0 ∷ x1 ∷ x2 ∷ x3 ∷ x4 ∷ x5 ∷ x6 ∷ x7 ∷ x8 ∷ x9 ∷ x10 ∷ x11 ∷ x12 ∷ []) h = let z : ⊥ = omega arith in absurd z
-all-14 (x0 ∷ x1 ∷ x2 ∷ x3 ∷ x4 ∷ x5 ∷ x6 ∷ x7 ∷ x8 ∷ x9 ∷ x10 ∷ x11 ∷ x12 ∷ x13 ∷ []) h = refl
-all-14 (x0 ∷ x1 ∷ x2 ∷ x3 ∷ x4 ∷ x5 ∷ x6 ∷ x7 ∷ x8 ∷ x9 ∷ x10 ∷ x11 ∷ x12 ∷ x13 ∷ x ∷ l) h = let z : ⊥ = omega arith in absurd z
-
-all-17 : (l : List (List ℕ)) → length l ≡ 17 → getD l 0 [] ∷ getD l 1 [] ∷ getD l 2 [] ∷ getD l 3 [] ∷ getD l 4 [] ∷ getD l 5 [] ∷ getD l 6 [] ∷ getD l 7 [] ∷ getD l 8 [] ∷ getD l 9 [] ∷ getD l 10 [] ∷ getD l 11 [] ∷ getD l 12 [] ∷ getD l 13 [] ∷ getD l 14 [] ∷ getD l 15 [] ∷ getD l 16 [] ∷ [] ≡ l
-all-17 [] h = let z : ⊥ = omega arith in absurd z
-all-17 (x0 ∷ []) h = let z : ⊥ = omega arith in absurd z
-all-17 (x0 ∷ x1 ∷ []) h = let z : ⊥ = omega arith in absurd z
-all-17 (x0 ∷ x1 ∷ x2 ∷ []) h = let z : ⊥ = omega arith in absurd z
-all-17 (x0 ∷ x1 ∷ x2 ∷ x3 ∷ []) h = let z : ⊥ = omega arith in absurd z
-all-17 (x0 ∷ x1 ∷ x2 ∷ x3 ∷ x4 ∷ []) h = let z : ⊥ = omega arith in absurd z
-all-17 (x0 ∷ x1 ∷ x2 ∷ x3 ∷ x4 ∷ x5 ∷ []) h = let z : ⊥ = omega arith in absurd z
-all-17 (x0 ∷ x1 ∷ x2 ∷ x3 ∷ x4 ∷ x5 ∷ x6 ∷ []) h = let z : ⊥ = omega arith in absurd z
-all-17 (x0 ∷ x1 ∷ x2 ∷ x3 ∷ x4 ∷ x5 ∷ x6 ∷ x7 ∷ []) h = let z : ⊥ = omega arith in absurd z
-all-17 (x0 ∷ x1 ∷ x2 ∷ x3 ∷ x4 ∷ x5 ∷ x6 ∷ x7 ∷ x8 ∷ []) h = let z : ⊥ = omega arith in absurd z
-all-17 (x0 ∷ x1 ∷ x2 ∷ x3 ∷ x4 ∷ x5 ∷ x6 ∷ x7 ∷ x8 ∷ x9 ∷ []) h = let z : ⊥ = omega arith in absurd z
-all-17 (x0 ∷ x1 ∷ x2 ∷ x3 ∷ x4 ∷ x5 ∷ x6 ∷ x7 ∷ x8 ∷ x9 ∷ x10 ∷ []) h = let z : ⊥ = omega arith in absurd z
-all-17 (x0 ∷ x1 ∷ x2 ∷ x3 ∷ x4 ∷ x5 ∷ x6 ∷ x7 ∷ x8 ∷ x9 ∷ x10 ∷ x11 ∷ []) h = let z : ⊥ = omega arith in absurd z
-all-17 (x0 ∷ x1 ∷ x2 ∷ x3 ∷ x4 ∷ x5 ∷ x6 ∷ x7 ∷ x8 ∷ x9 ∷ x10 ∷ x11 ∷ x12 ∷ []) h = let z : ⊥ = omega arith in absurd z
-all-17 (x0 ∷ x1 ∷ x2 ∷ x3 ∷ x4 ∷ x5 ∷ x6 ∷ x7 ∷ x8 ∷ x9 ∷ x10 ∷ x11 ∷ x12 ∷ x13 ∷ []) h = let z : ⊥ = omega arith in absurd z
-all-17 (x0 ∷ x1 ∷ x2 ∷ x3 ∷ x4 ∷ x5 ∷ x6 ∷ x7 ∷ x8 ∷ x9 ∷ x10 ∷ x11 ∷ x12 ∷ x13 ∷ x14 ∷ []) h = let z : ⊥ = omega arith in absurd z
-all-17 (x0 ∷ x1 ∷ x2 ∷ x3 ∷ x4 ∷ x5 ∷ x6 ∷ x7 ∷ x8 ∷ x9 ∷ x10 ∷ x11 ∷ x12 ∷ x13 ∷ x14 ∷ x15 ∷ []) h = let z : ⊥ = omega arith in absurd z
-all-17 (x0 ∷ x1 ∷ x2 ∷ x3 ∷ x4 ∷ x5 ∷ x6 ∷ x7 ∷ x8 ∷ x9 ∷ x10 ∷ x11 ∷ x12 ∷ x13 ∷ x14 ∷ x15 ∷ x16 ∷ []) h = refl
-all-17 (x0 ∷ x1 ∷ x2 ∷ x3 ∷ x4 ∷ x5 ∷ x6 ∷ x7 ∷ x8 ∷ x9 ∷ x10 ∷ x11 ∷ x12 ∷ x13 ∷ x14 ∷ x15 ∷ x16 ∷ x ∷ l) h = let z : ⊥ = omega arith in absurd z
-
-fields-12 : (body : List ℕ) (t : Talker) (k : Kind) → addressOf body ≡ Standard t k → length (fieldsOf body) - 1 ≡ 12 → 5 + total (theFields body 1 ∷ theFields body 2 ∷ theFields body 3 ∷ theFields body 4 ∷ theFields body 5 ∷ theFields body 6 ∷ theFields body 7 ∷ theFields body 8 ∷ theFields body 9 ∷ theFields body 10 ∷ theFields body 11 ∷ theFields body 12 ∷ []) ≤ length body
-fields-12 body t k a c = go (r .0) (r .1) (r .2)
+fields-long : (body : List ℕ) (t : Talker) (k : Kind) → addressOf body ≡ Standard t k → (n : ℕ) → length (fieldsOf body) - 1 ≡ n
+    → 5 + bytes (theFields body) 0 n ≤ length body
+fields-long body t k a n c = let r = first-field body in go (r .0) (r .1) (r .2)
   where
-    r : First (fieldsOf body)
-    r = first-field body
-
-    go : (f : List ℕ) (fs : List (List ℕ)) → fieldsOf body ≡ f ∷ fs → 5 + total (theFields body 1 ∷ theFields body 2 ∷ theFields body 3 ∷ theFields body 4 ∷ theFields body 5 ∷ theFields body 6 ∷ theFields body 7 ∷ theFields body 8 ∷ theFields body 9 ∷ theFields body 10 ∷ theFields body 11 ∷ theFields body 12 ∷ []) ≤ length body
+    go : (f : List ℕ) (fs : List (List ℕ)) → fieldsOf body ≡ f ∷ fs → 5 + bytes (theFields body) 0 n ≤ length body
     go f fs q =
-        let l : length fs ≡ 12 = omega (arith, ap (λ (x : List (List ℕ)). length x) q, c) in
+        let l : length fs ≡ n = omega (arith, ap (λ (x : List (List ℕ)). length x) q, c) in
         let g : 5 ≤ length f = rw q at (address-long body t k a) in
-        let s = ap (λ (x : List (List ℕ)). total x) (all-12 fs l) in
-        rw (body-long body f fs q, q) (omega (arith, g, s))
-
-fields-14 : (body : List ℕ) (t : Talker) (k : Kind) → addressOf body ≡ Standard t k → length (fieldsOf body) - 1 ≡ 14 → 5 + total (theFields body 1 ∷ theFields body 2 ∷ theFields body 3 ∷ theFields body 4 ∷ theFields body 5 ∷ theFields body 6 ∷ theFields body 7 ∷ theFields body 8 ∷ theFields body 9 ∷ theFields body 10 ∷ theFields body 11 ∷ theFields body 12 ∷ theFields body 13 ∷ theFields body 14 ∷ []) ≤ length body
-fields-14 body t k a c = go (r .0) (r .1) (r .2)
-  where
-    r : First (fieldsOf body)
-    r = first-field body
-
-    go : (f : List ℕ) (fs : List (List ℕ)) → fieldsOf body ≡ f ∷ fs → 5 + total (theFields body 1 ∷ theFields body 2 ∷ theFields body 3 ∷ theFields body 4 ∷ theFields body 5 ∷ theFields body 6 ∷ theFields body 7 ∷ theFields body 8 ∷ theFields body 9 ∷ theFields body 10 ∷ theFields body 11 ∷ theFields body 12 ∷ theFields body 13 ∷ theFields body 14 ∷ []) ≤ length body
-    go f fs q =
-        let l : length fs ≡ 14 = omega (arith, ap (λ (x : List (List ℕ)). length x) q, c) in
-        let g : 5 ≤ length f = rw q at (address-long body t k a) in
-        let s = ap (λ (x : List (List ℕ)). total x) (all-14 fs l) in
-        rw (body-long body f fs q, q) (omega (arith, g, s))
-
-fields-17 : (body : List ℕ) (t : Talker) (k : Kind) → addressOf body ≡ Standard t k → length (fieldsOf body) - 1 ≡ 17 → 5 + total (theFields body 1 ∷ theFields body 2 ∷ theFields body 3 ∷ theFields body 4 ∷ theFields body 5 ∷ theFields body 6 ∷ theFields body 7 ∷ theFields body 8 ∷ theFields body 9 ∷ theFields body 10 ∷ theFields body 11 ∷ theFields body 12 ∷ theFields body 13 ∷ theFields body 14 ∷ theFields body 15 ∷ theFields body 16 ∷ theFields body 17 ∷ []) ≤ length body
-fields-17 body t k a c = go (r .0) (r .1) (r .2)
-  where
-    r : First (fieldsOf body)
-    r = first-field body
-
-    go : (f : List ℕ) (fs : List (List ℕ)) → fieldsOf body ≡ f ∷ fs → 5 + total (theFields body 1 ∷ theFields body 2 ∷ theFields body 3 ∷ theFields body 4 ∷ theFields body 5 ∷ theFields body 6 ∷ theFields body 7 ∷ theFields body 8 ∷ theFields body 9 ∷ theFields body 10 ∷ theFields body 11 ∷ theFields body 12 ∷ theFields body 13 ∷ theFields body 14 ∷ theFields body 15 ∷ theFields body 16 ∷ theFields body 17 ∷ []) ≤ length body
-    go f fs q =
-        let l : length fs ≡ 17 = omega (arith, ap (λ (x : List (List ℕ)). length x) q, c) in
-        let g : 5 ≤ length f = rw q at (address-long body t k a) in
-        let s = ap (λ (x : List (List ℕ)). total x) (all-17 fs l) in
-        rw (body-long body f fs q, q) (omega (arith, g, s))
+        let own : ℕ → List ℕ = λ j. getD (f ∷ fs) j [] in
+        let s : bytes own 0 (length fs) ≡ total fs = bytes-total own 0 fs (λ j h. ap own (zero-add (suc j))) in
+        let b = ap (λ (x : List (List ℕ)). bytes (λ j. getD x j []) 0 n) q in
+        omega (arith, g, s, b, ap (bytes own 0) l, body-long body f fs q)
 
 -- The body of a talker's sentence, by its fields.
 standard-long : (t : Talker) (kind : List ℕ) (fs : List (List ℕ)) (n : ℕ) → length kind ≡ 3 → total fs ≤ n → length (joinFields (talkerText t ++ kind) fs) ≤ 5 + n
@@ -237,33 +156,33 @@ standard-long t kind fs n h i = omega (arith, joined-length (talkerText t ++ kin
 module _ (body : List ℕ) (room : length body ≤ 76) where
   standard-written : (t : Talker) (k : Kind) → addressOf body ≡ Standard t k → CanBeWritten (standardOf t k (length (fieldsOf body) - 1) (theFields body))
   standard-written t K.Gga a =
-      TGga.write-read t (length (fieldsOf body) - 1) (theFields body) (λ (x : Sentence). CanBeWritten (aloneOf x)) (λ n f. tt)
-      (λ r c w u. (w, fits (ggaBody t r) (omega (arith, standard-long t (ascii "GGA") (ggaFields r) _ refl u, fields-14 body t K.Gga a c, room))))
+      N.gga .write-read t (length (fieldsOf body) - 1) (theFields body) (λ (x : Sentence). CanBeWritten (aloneOf x)) (λ n f. tt)
+      (λ r c w u. (w, fits (ggaBody t r) (omega (arith, standard-long t (ascii "GGA") (ggaFields r) _ refl u, fields-long body t K.Gga a _ c, room))))
   standard-written t K.Rmc a =
-      TRmc.write-read t (length (fieldsOf body) - 1) (theFields body) (λ (x : Sentence). CanBeWritten (aloneOf x)) (λ n f. tt)
-      (λ r c w u. (w, fits (rmcBody t r) (omega (arith, standard-long t (ascii "RMC") (rmcFields r) _ refl u, fields-12 body t K.Rmc a c, room))))
+      N.rmc .write-read t (length (fieldsOf body) - 1) (theFields body) (λ (x : Sentence). CanBeWritten (aloneOf x)) (λ n f. tt)
+      (λ r c w u. (w, fits (rmcBody t r) (omega (arith, standard-long t (ascii "RMC") (rmcFields r) _ refl u, fields-long body t K.Rmc a _ c, room))))
   standard-written t K.Gll a =
-      TGll.write-read t (length (fieldsOf body) - 1) (theFields body) (λ (x : Sentence). CanBeWritten (aloneOf x)) (λ n f. tt) (λ r c w. (w, fits (gllBody t r) (TGll.fits t r w)))
+      N.gll .write-read t (length (fieldsOf body) - 1) (theFields body) (λ (x : Sentence). CanBeWritten (aloneOf x)) (λ n f. tt) (λ r c w u. (w, fits (gllBody t r) (N.gll-fits t r w)))
   standard-written t K.Vtg a =
-      TVtg.write-read t (length (fieldsOf body) - 1) (theFields body) (λ (x : Sentence). CanBeWritten (aloneOf x)) (λ n f. tt) (λ r c w. (w, fits (vtgBody t r) (TVtg.fits t r w)))
+      N.vtg .write-read t (length (fieldsOf body) - 1) (theFields body) (λ (x : Sentence). CanBeWritten (aloneOf x)) (λ n f. tt) (λ r c w u. (w, fits (vtgBody t r) (N.vtg-fits t r w)))
   standard-written t K.Zda a =
-      TZda.write-read t (length (fieldsOf body) - 1) (theFields body) (λ (x : Sentence). CanBeWritten (aloneOf x)) (λ n f. tt) (λ r c w. (w, fits (zdaBody t r) (TZda.fits t r w)))
+      N.zda .write-read t (length (fieldsOf body) - 1) (theFields body) (λ (x : Sentence). CanBeWritten (aloneOf x)) (λ n f. tt) (λ r c w u. (w, fits (zdaBody t r) (N.zda-fits t r w)))
   standard-written t K.Gsa a =
       TGsa.write-read t (length (fieldsOf body) - 1) (theFields body) (λ (x : Reading). CanBeWritten x) (λ n f. tt)
-      (λ r e c w u. (w, fits (gsaBody t r) (omega (arith, standard-long t (ascii "GSA") (gsaFields r) _ refl u, fields-17 body t K.Gsa a c, room))))
+      (λ r e c w u. (w, fits (gsaBody t r) (omega (arith, standard-long t (ascii "GSA") (gsaFields r) _ refl u, fields-long body t K.Gsa a _ c, room))))
   standard-written t K.Gsv a =
-      TGsvRead.write-read t (theFields body) (λ (x : Reading). CanBeWritten x) (λ n f. tt)
-      (λ r e g. (TGsvRead.fault-none r g, fits (gsvBody t r) (TGsv.fits t r))) (length (fieldsOf body) - 1)
+      TGsv.write-read t (theFields body) (λ (x : Reading). CanBeWritten x) (λ n f. tt)
+      (λ r e g. (fault-none r g, fits (gsvBody t r) (TGsv.fits t r))) (length (fieldsOf body) - 1)
 
   maker-written : (k : Pir) → CanBeWritten (makerOf k (length (fieldsOf body) - 1) (theFields body))
-  maker-written P.Pr = TPirpr.write-read (length (fieldsOf body) - 1) (theFields body) (λ (x : Sentence). CanBeWritten (aloneOf x)) (λ n f. tt) (λ r c w. (w, fits (pirprBody r) (TPirpr.fits r w)))
-  maker-written P.Tr = TPirtr.write-read (length (fieldsOf body) - 1) (theFields body) (λ (x : Sentence). CanBeWritten (aloneOf x)) (λ n f. tt) (λ r c w. (w, fits (pirtrBody r) (TPirtr.fits r w)))
-  maker-written P.Sr = TPirsr.write-read (length (fieldsOf body) - 1) (theFields body) (λ (x : Sentence). CanBeWritten (aloneOf x)) (λ n f. tt) (λ r c w. (w, fits (pirsrBody r) (TPirsr.fits r w)))
-  maker-written P.Pa = TPirpa.write-read (length (fieldsOf body) - 1) (theFields body) (λ (x : Sentence). CanBeWritten (aloneOf x)) (λ n f. tt) (λ r c w. (w, fits (pirpaBody r) (TPirpa.fits r w)))
-  maker-written P.Ta = TPirta.write-read (length (fieldsOf body) - 1) (theFields body) (λ (x : Sentence). CanBeWritten (aloneOf x)) (λ n f. tt) (λ r c w. (w, fits (pirtaBody r) (TPirta.fits r w)))
-  maker-written P.Sa = TPirsa.write-read (length (fieldsOf body) - 1) (theFields body) (λ (x : Sentence). CanBeWritten (aloneOf x)) (λ n f. tt) (λ r c w. (w, fits (pirsaBody r) (TPirsa.fits r w)))
-  maker-written P.Ea = TPirea.write-read (length (fieldsOf body) - 1) (theFields body) (λ (x : Sentence). CanBeWritten (aloneOf x)) (λ n f. tt) (λ r c w. (w, fits (pireaBody r) (TPirea.fits r w)))
-  maker-written P.Er = TPirer.write-read (length (fieldsOf body) - 1) (theFields body) (λ (x : Sentence). CanBeWritten (aloneOf x)) (λ n f. tt) (fits pirerBody TPirer.fits)
+  maker-written P.Pr = C.pirpr .write-read (length (fieldsOf body) - 1) (theFields body) (λ (x : Sentence). CanBeWritten (aloneOf x)) (λ n f. tt) (λ r c w. (w, fits (pirprBody r) (C.pirpr .fits r w)))
+  maker-written P.Tr = C.pirtr .write-read (length (fieldsOf body) - 1) (theFields body) (λ (x : Sentence). CanBeWritten (aloneOf x)) (λ n f. tt) (λ r c w. (w, fits (pirtrBody r) (C.pirtr .fits r w)))
+  maker-written P.Sr = C.pirsr .write-read (length (fieldsOf body) - 1) (theFields body) (λ (x : Sentence). CanBeWritten (aloneOf x)) (λ n f. tt) (λ r c w. (w, fits (pirsrBody r) (C.pirsr .fits r w)))
+  maker-written P.Pa = C.pirpa .write-read (length (fieldsOf body) - 1) (theFields body) (λ (x : Sentence). CanBeWritten (aloneOf x)) (λ n f. tt) (λ r c w. (w, fits (pirpaBody r) (C.pirpa .fits r w)))
+  maker-written P.Ta = C.pirta .write-read (length (fieldsOf body) - 1) (theFields body) (λ (x : Sentence). CanBeWritten (aloneOf x)) (λ n f. tt) (λ r c w. (w, fits (pirtaBody r) (C.pirta .fits r w)))
+  maker-written P.Sa = C.pirsa .write-read (length (fieldsOf body) - 1) (theFields body) (λ (x : Sentence). CanBeWritten (aloneOf x)) (λ n f. tt) (λ r c w. (w, fits (pirsaBody r) (C.pirsa .fits r w)))
+  maker-written P.Ea = C.pirea .write-read (length (fieldsOf body) - 1) (theFields body) (λ (x : Sentence). CanBeWritten (aloneOf x)) (λ n f. tt) (λ r c w. (w, fits (pireaBody r) (C.pirea .fits r w)))
+  maker-written P.Er = C.pirer .write-read (length (fieldsOf body) - 1) (theFields body) (λ (x : Sentence). CanBeWritten (aloneOf x)) (λ n f. tt) (λ v c w. fits pirerBody (C.pirer .fits tt w))
 
   addressed-written : (a : Address) → addressOf body ≡ a → CanBeWritten (addressed a (length (fieldsOf body) - 1) (theFields body))
   addressed-written (Standard t k) e = standard-written t k e

@@ -25,44 +25,35 @@ use Rattle.tripssat.proofs.Gsv as TGsv
 use Rattle.claims.proofs.Rewriting as Rewriting
 use Rattle.records.specs.declared.Gga.{Gga}
 use Rattle.writenav.specs.Gga.{ggaWrong, ggaBody}
-use Rattle.tripsnav.proofs.Gga as TGga
 use Rattle.records.specs.declared.Gll.{Gll}
 use Rattle.writenav.specs.Gll.{gllWrong, gllBody}
-use Rattle.tripsnav.proofs.Gll as TGll
 use Rattle.records.specs.declared.Rmc.{Rmc}
 use Rattle.writenav.specs.Rmc.{rmcWrong, rmcBody}
-use Rattle.tripsnav.proofs.Rmc as TRmc
 use Rattle.records.specs.declared.Vtg.{Vtg}
 use Rattle.writenav.specs.Vtg.{vtgWrong, vtgBody}
-use Rattle.tripsnav.proofs.Vtg as TVtg
 use Rattle.records.specs.declared.Zda.{Zda}
 use Rattle.writenav.specs.Zda.{zdaWrong, zdaBody}
-use Rattle.tripsnav.proofs.Zda as TZda
 use Rattle.records.specs.declared.Gsa.{Gsa}
 use Rattle.records.specs.declared.Gsv.{Gsv}
 use Rattle.records.specs.declared.PortAsked.{PortAsked}
 use Rattle.writecom.specs.Pirpr.{pirprWrong, pirprBody}
-use Rattle.tripscom.proofs.Pirpr as TPirpr
 use Rattle.records.specs.declared.DatumAsked.{DatumAsked}
 use Rattle.writecom.specs.Pirtr.{pirtrWrong, pirtrBody}
-use Rattle.tripscom.proofs.Pirtr as TPirtr
 use Rattle.records.specs.declared.MasksAsked.{MasksAsked}
 use Rattle.writecom.specs.Pirsr.{pirsrWrong, pirsrBody}
-use Rattle.tripscom.proofs.Pirsr as TPirsr
 use Rattle.records.specs.declared.PortTold.{PortTold}
 use Rattle.writecom.specs.Pirpa.{pirpaWrong, pirpaBody}
-use Rattle.tripscom.proofs.Pirpa as TPirpa
 use Rattle.records.specs.declared.DatumTold.{DatumTold}
 use Rattle.writecom.specs.Pirta.{pirtaWrong, pirtaBody}
-use Rattle.tripscom.proofs.Pirta as TPirta
 use Rattle.records.specs.declared.MasksTold.{MasksTold}
 use Rattle.writecom.specs.Pirsa.{pirsaWrong, pirsaBody}
-use Rattle.tripscom.proofs.Pirsa as TPirsa
 use Rattle.records.specs.declared.CodeTold.{CodeTold}
 use Rattle.writecom.specs.Pirea.{pireaWrong, pireaBody}
-use Rattle.tripscom.proofs.Pirea as TPirea
 use Rattle.writecom.specs.Pirer.{pirerBody}
-use Rattle.tripscom.proofs.Pirer as TPirer
+use Rattle.tripsnav.proofs.Navigation as N
+use Rattle.tripscom.proofs.Commands as C
+use Rattle.satellites.specs.Active.{gsaBeside}
+use Rattle.writesat.proofs.GoodLaws.{good-is}
 
 module _ {fault : Written} {body out : List ℕ} {answer : Written} {left : List ℕ} (w : Writes fault body out answer left) where
   -- A refusal leaves every byte of the output.
@@ -133,62 +124,62 @@ read-passes l e = go (eqb (lineRefusal l) 0) refl e
 -- record that it was given.
 pub gga-back : (t : Talker) (r : Gga) {out left : List ℕ} {answer : Written} → Writes (faultAt (ggaWrong r)) (ggaBody t r) out answer left
     → answer .no ≡ 0 → readLine (take (answer .length) left) ≡ aloneOf (S.Gga t r)
-gga-back t r w h = let d = success w h in rw (line-written w h) (TGga.read-write t r (fault-zero (ggaWrong r) (d .good)) (short (ggaBody t r) (d .most)))
+gga-back t r w h = let d = success w h in rw (line-written w h) (N.gga .read-write t r (fault-zero (ggaWrong r) (d .good)) (short (ggaBody t r) (d .most)))
 
 pub gll-back : (t : Talker) (r : Gll) {out left : List ℕ} {answer : Written} → Writes (faultAt (gllWrong r)) (gllBody t r) out answer left
     → answer .no ≡ 0 → readLine (take (answer .length) left) ≡ aloneOf (S.Gll t r)
-gll-back t r w h = let d = success w h in rw (line-written w h) (TGll.read-write t r (fault-zero (gllWrong r) (d .good)))
+gll-back t r w h = let d = success w h in rw (line-written w h) (let good = fault-zero (gllWrong r) (d .good) in N.gll .read-write t r good (N.gll-fits t r good))
 
 pub rmc-back : (t : Talker) (r : Rmc) {out left : List ℕ} {answer : Written} → Writes (faultAt (rmcWrong r)) (rmcBody t r) out answer left
     → answer .no ≡ 0 → readLine (take (answer .length) left) ≡ aloneOf (S.Rmc t r)
-rmc-back t r w h = let d = success w h in rw (line-written w h) (TRmc.read-write t r (fault-zero (rmcWrong r) (d .good)) (short (rmcBody t r) (d .most)))
+rmc-back t r w h = let d = success w h in rw (line-written w h) (N.rmc .read-write t r (fault-zero (rmcWrong r) (d .good)) (short (rmcBody t r) (d .most)))
 
 pub vtg-back : (t : Talker) (r : Vtg) {out left : List ℕ} {answer : Written} → Writes (faultAt (vtgWrong r)) (vtgBody t r) out answer left
     → answer .no ≡ 0 → readLine (take (answer .length) left) ≡ aloneOf (S.Vtg t r)
-vtg-back t r w h = let d = success w h in rw (line-written w h) (TVtg.read-write t r (fault-zero (vtgWrong r) (d .good)))
+vtg-back t r w h = let d = success w h in rw (line-written w h) (let good = fault-zero (vtgWrong r) (d .good) in N.vtg .read-write t r good (N.vtg-fits t r good))
 
 pub zda-back : (t : Talker) (r : Zda) {out left : List ℕ} {answer : Written} → Writes (faultAt (zdaWrong r)) (zdaBody t r) out answer left
     → answer .no ≡ 0 → readLine (take (answer .length) left) ≡ aloneOf (S.Zda t r)
-zda-back t r w h = let d = success w h in rw (line-written w h) (TZda.read-write t r (fault-zero (zdaWrong r) (d .good)))
+zda-back t r w h = let d = success w h in rw (line-written w h) (let good = fault-zero (zdaWrong r) (d .good) in N.zda .read-write t r good (N.zda-fits t r good))
 
 pub gsa-back : (t : Talker) (r : Gsa) → length (r .satellites) ≡ 12 → {out left : List ℕ} {answer : Written} → Writes (faultAt (gsaWrong r)) (gsaBody t r) out answer left
-    → answer .no ≡ 0 → readLine (take (answer .length) left) ≡ TGsa.theGsa t r
+    → answer .no ≡ 0 → readLine (take (answer .length) left) ≡ gsaBeside t r
 gsa-back t r n w h = let d = success w h in rw (line-written w h) (TGsa.read-write t r n (fault-zero (gsaWrong r) (d .good)) (short (gsaBody t r) (d .most)))
 
 pub gsv-back : (t : Talker) (r : Gsv) → length (r .entries) ≡ 4 → {out left : List ℕ} {answer : Written} → Writes (gsvFault r) (gsvBody t r) out answer left
     → answer .no ≡ 0 → readLine (take (answer .length) left) ≡ TGsv.theGsv t r
-gsv-back t r n w h = let d = success w h in rw (line-written w h) (TGsv.read-write t r n (TGsv.good-is r (d .good)))
+gsv-back t r n w h = let d = success w h in rw (line-written w h) (TGsv.read-write t r n (good-is r (d .good)))
 
 pub pirpr-back : (r : PortAsked) {out left : List ℕ} {answer : Written} → Writes (faultAt (pirprWrong r)) (pirprBody r) out answer left
     → answer .no ≡ 0 → readLine (take (answer .length) left) ≡ aloneOf (S.Pr r)
-pirpr-back r w h = let d = success w h in rw (line-written w h) (TPirpr.read-write r (fault-zero (pirprWrong r) (d .good)))
+pirpr-back r w h = let d = success w h in rw (line-written w h) (C.pirpr .read-write r (fault-zero (pirprWrong r) (d .good)))
 
 pub pirtr-back : (r : DatumAsked) {out left : List ℕ} {answer : Written} → Writes (faultAt (pirtrWrong r)) (pirtrBody r) out answer left
     → answer .no ≡ 0 → readLine (take (answer .length) left) ≡ aloneOf (S.Tr r)
-pirtr-back r w h = let d = success w h in rw (line-written w h) (TPirtr.read-write r (fault-zero (pirtrWrong r) (d .good)))
+pirtr-back r w h = let d = success w h in rw (line-written w h) (C.pirtr .read-write r (fault-zero (pirtrWrong r) (d .good)))
 
 pub pirsr-back : (r : MasksAsked) {out left : List ℕ} {answer : Written} → Writes (faultAt (pirsrWrong r)) (pirsrBody r) out answer left
     → answer .no ≡ 0 → readLine (take (answer .length) left) ≡ aloneOf (S.Sr r)
-pirsr-back r w h = let d = success w h in rw (line-written w h) (TPirsr.read-write r (fault-zero (pirsrWrong r) (d .good)))
+pirsr-back r w h = let d = success w h in rw (line-written w h) (C.pirsr .read-write r (fault-zero (pirsrWrong r) (d .good)))
 
 pub pirpa-back : (r : PortTold) {out left : List ℕ} {answer : Written} → Writes (faultAt (pirpaWrong r)) (pirpaBody r) out answer left
     → answer .no ≡ 0 → readLine (take (answer .length) left) ≡ aloneOf (S.Pa r)
-pirpa-back r w h = let d = success w h in rw (line-written w h) (TPirpa.read-write r (fault-zero (pirpaWrong r) (d .good)))
+pirpa-back r w h = let d = success w h in rw (line-written w h) (C.pirpa .read-write r (fault-zero (pirpaWrong r) (d .good)))
 
 pub pirta-back : (r : DatumTold) {out left : List ℕ} {answer : Written} → Writes (faultAt (pirtaWrong r)) (pirtaBody r) out answer left
     → answer .no ≡ 0 → readLine (take (answer .length) left) ≡ aloneOf (S.Ta r)
-pirta-back r w h = let d = success w h in rw (line-written w h) (TPirta.read-write r (fault-zero (pirtaWrong r) (d .good)))
+pirta-back r w h = let d = success w h in rw (line-written w h) (C.pirta .read-write r (fault-zero (pirtaWrong r) (d .good)))
 
 pub pirsa-back : (r : MasksTold) {out left : List ℕ} {answer : Written} → Writes (faultAt (pirsaWrong r)) (pirsaBody r) out answer left
     → answer .no ≡ 0 → readLine (take (answer .length) left) ≡ aloneOf (S.Sa r)
-pirsa-back r w h = let d = success w h in rw (line-written w h) (TPirsa.read-write r (fault-zero (pirsaWrong r) (d .good)))
+pirsa-back r w h = let d = success w h in rw (line-written w h) (C.pirsa .read-write r (fault-zero (pirsaWrong r) (d .good)))
 
 pub pirea-back : (r : CodeTold) {out left : List ℕ} {answer : Written} → Writes (faultAt (pireaWrong r)) (pireaBody r) out answer left
     → answer .no ≡ 0 → readLine (take (answer .length) left) ≡ aloneOf (S.Ea r)
-pirea-back r w h = let d = success w h in rw (line-written w h) (TPirea.read-write r (fault-zero (pireaWrong r) (d .good)))
+pirea-back r w h = let d = success w h in rw (line-written w h) (C.pirea .read-write r (fault-zero (pireaWrong r) (d .good)))
 
 pub pirer-back : {out left : List ℕ} {answer : Written} → Writes (faultAt 0) pirerBody out answer left → answer .no ≡ 0 → readLine (take (answer .length) left) ≡ aloneOf S.Er
-pirer-back w h = rw (line-written w h) TPirer.read-write
+pirer-back w h = rw (line-written w h) (C.pirer .read-write tt C.pirer-good)
 
 -- What was read can be written: it is in range, and its line fits.
 pub read-can-be-written : (l : List ℕ) → Rewriting.CanBeWritten (readLine l)

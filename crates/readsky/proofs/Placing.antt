@@ -9,7 +9,7 @@ use lib.Seq.{append-snoc, set-at, length-take-le}
 use Rattle.records.specs.declared.Entry.{Entry}
 use Rattle.records.specs.declared.Gsv.{Gsv}
 use Rattle.records.specs.Blank.{blankEntry}
-use Rattle.tripssat.proofs.Lists.{all-four}
+use Rattle.trips.proofs.Lists.{all-four}
 use Rattle.sky.specs.Group.{usedOf}
 use Rattle.readsky.specs.Steps.{Sound}
 

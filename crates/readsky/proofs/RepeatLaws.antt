@@ -9,7 +9,7 @@ use lib.ListN.{length, getD, take, length-set}
 use Rattle.records.specs.declared.Entry.{Entry}
 use Rattle.records.specs.declared.Gsv.{Gsv}
 use Rattle.records.specs.Blank.{blankEntry}
-use Rattle.tripssat.proofs.Lists.{all-four}
+use Rattle.trips.proofs.Lists.{all-four}
 use Rattle.sky.specs.Group.{numbered, repeats, usedOf}
 use Rattle.sky.specs.Marks.{Marks, HasMark, hadIf, markedIf}
 use Rattle.sky.proofs.MarkLaws.{One, ifUsed, one-mark}

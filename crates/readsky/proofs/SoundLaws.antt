@@ -20,8 +20,9 @@ use Rattle.trips.proofs.Known.{Zero, all-zero}
 use Rattle.trips.proofs.Values.{inside}
 use Rattle.writesat.specs.Gsv.{entryAfters, entryOf, gsvWrong, restBlank, used}
 use Rattle.records.specs.Blank.{isBlank}
-use Rattle.tripssat.proofs.Gsv.{Good, blank-is}
-use Rattle.tripssat.proofs.Lists.{all-four}
+use Rattle.rowlaws.proofs.EntryLaws.{blank-is}
+use Rattle.writesat.proofs.GoodLaws.{Good}
+use Rattle.trips.proofs.Lists.{all-four}
 use Rattle.tripssat.proofs.GsvSame.{gsv-good}
 use Rattle.sky.specs.Group.{usedOf}
 use Rattle.readsky.specs.Steps.{Sound}

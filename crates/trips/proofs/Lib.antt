@@ -11,3 +11,4 @@ pub mod Alike
 pub mod RangedNumbers
 pub mod RangedPlaces
 pub mod SameTexts
+pub mod Lists

@@ -29,7 +29,7 @@ use Rattle.records.specs.Blank.{noMaybe, blankEntry}
 use Rattle.slots.specs.Slots.{markOf, isThere}
 use Rattle.tonumbers.specs.Layout.{ggaNumbers, gllNumbers, gsaNumbers, gsvNumbers, rmcNumbers, vtgNumbers, zdaNumbers, pirprNumbers, pirtrNumbers, pirsrNumbers, pirpaNumbers, pirtaNumbers, pirsaNumbers, pireaNumbers}
 use Rattle.fromnumbers.specs.Back.{ggaAt, gllAt, gsaAt, gsvAt, rmcAt, vtgAt, zdaAt, pirprAt, pirtrAt, pirsrAt, pirpaAt, pirtaAt, pirsaAt, pireaAt}
-use Rattle.tripssat.proofs.Lists.{all-twelve, all-four}
+use Rattle.trips.proofs.Lists.{all-twelve, all-four}
 
 pub mark-back : (b : Bool) → isThere (markOf b) ≡ b
 mark-back true = refl

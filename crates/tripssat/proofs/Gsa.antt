@@ -23,7 +23,7 @@ use Rattle.trips.proofs.Known.{known-gsa}
 use Rattle.rowlaws.proofs.Laws.{_⊵_, bytes, Tight, tight-one}
 use Rattle.rowlaws.proofs.FormLaws.{lawful-exact, lawful-fixed, lawful-letter, lawful-number, short-exact, short-fixed, short-letter, short-number}
 use Rattle.rowlaws.proofs.KindLaws.{Standard, standard}
-use Rattle.tripssat.proofs.Lists.{all-twelve}
+use Rattle.trips.proofs.Lists.{all-twelve}
 
 tight-satellite : Tight (one satellite)
 tight-satellite =
@@ -49,6 +49,7 @@ gsa =
 -- What is written of a record with twelve places is read back as the same record and talker.
 pub read-write : (t : Talker) (r : Gsa) → length (r .satellites) ≡ 12 → gsaWrong r ≡ 0 → length (gsaBody t r) ≤ 76
     → readLine (asLine (gsaBody t r)) ≡ gsaBeside t r
+unfolding gsaWrong gsaFields
 read-write t r twelve good fits =
     let again : List Maybe → Reading = λ l.
         gsaBeside t (record { selection = r .selection; fix = r .fix; satellites = l; pdop = r .pdop; hdop = r .hdop; vdop = r .vdop }) in
@@ -59,4 +60,5 @@ pub write-read : (t : Talker) (n : ℕ) (field : ℕ → List ℕ) (P : Reading 
     → ((r : Gsa) → length (r .satellites) ≡ 12 → n ≡ gsaRow .width → gsaWrong r ≡ 0 → total (gsaFields r) ≤ bytes field 0 (gsaRow .width)
     → P (gsaBeside t r))
     → P (gsaOf t n field)
+unfolding gsaWrong gsaFields
 write-read t n field P none written = gsa .write-read t n field P none (λ v c e s. written (gsaMade v) refl c e s)

@@ -7,7 +7,7 @@ use mathlib.Core.Path.{_∙_, _≡_, ap, refl, subst, sym}
 use native.Mathlib.Omega.{arith}
 use lib.Dec.{eqb, ltb, lit<, lit≤}
 use lib.ListN.{length}
-use borrow.Author.Tests.{eq-eqb, eqb-true, eqb-false, le-ltb, ltb-false, ne-eqb}
+use borrow.Author.Tests.{eq-eqb, ltb-false}
 use Rattle.address.specs.declared.Address.{Address}
 use Rattle.address.specs.declared.Address.the-variants as A
 use Rattle.address.specs.declared.Kind.the-variants as K
@@ -28,62 +28,24 @@ use Rattle.forms.specs.Got.{pick}
 use Rattle.ranges.specs.Ranges.{outside}
 use Rattle.row.specs.Row.{one}
 use Rattle.row.specs.Kind.{answerBy, faultBy, fieldsFor, readBy}
-use Rattle.satellites.specs.View.{entriesOf, entryIf, firstOf, gsvBeside, gsvMade, gsvOf, gsvRow, gsvWith, refused}
+use Rattle.satellites.specs.View.{entriesOf, entryIf, gsvBeside, gsvMade, gsvOf, gsvRow, gsvWith, refused}
 use Rattle.sealing.specs.Body.{talkerText}
-use Rattle.sealing.specs.Written as W
 use Rattle.trips.proofs.Clean.{Clean}
 use Rattle.trips.proofs.CleanTexts.{joined-length, total, total-append}
 use Rattle.trips.proofs.FieldTexts.{long-fixed}
 use Rattle.trips.proofs.Known.{Zero, address-clean, address-five, all-zero, known-gsv, zero-all}
 use Rattle.trips.proofs.Values.{zero-one}
-use Rattle.writesat.specs.Gsv.{entryAfters, entryFields, entryOf, gsvBody, gsvFault, gsvFields, gsvValues, gsvWrong, restBlank, used}
+use Rattle.writesat.specs.Gsv.{entryAfters, entryFields, entryOf, gsvBody, gsvFields, gsvValues, gsvWrong, restBlank, used}
+use Rattle.writesat.proofs.GoodLaws.{Good}
 use Rattle.rowlaws.proofs.Laws.{_⊳_, Lawful, lawful-one, near-zero}
-use Rattle.rowlaws.proofs.EntryLaws.{lawful-entryIf}
+use Rattle.rowlaws.proofs.EntryLaws.{first-none, lawful-entryIf, none-first}
 use Rattle.rowlaws.proofs.FormLaws.{lawful-exact}
 use Rattle.rowlaws.proofs.Trips.{line-back, read-in-range}
-use Rattle.tripssat.proofs.Lists.{all-four}
+use Rattle.trips.proofs.Lists.{all-four}
 
 -- What a reading of a GSV sentence is.
 abbrev pub theGsv : Talker → Gsv → Reading
 theGsv t r = record { sentence = S.Gsv t; gsa = blankGsa; gsv = r }
-
--- What a record without a fault is.
-pub record Good (r : Gsv) : Type 0 where
-  pub few : r .count ≤ 4
-  pub values : gsvWrong r ≡ 0
-  pub blank : restBlank r ≡ true
-
-pub good-is : (r : Gsv) → gsvFault r .no ≡ 0 → Good r
-unfolding gsvFault
-good-is r e = go (ltb 4 (r .count)) (eqb (gsvWrong r) 0) (restBlank r) refl refl refl e
-  where
-    go : (a b c : Bool) → ltb 4 (r .count) ≡ a → eqb (gsvWrong r) 0 ≡ b → restBlank r ≡ c
-        → W.pick a (W.refused 5 0 0) (W.pick b (W.pick c (W.wrote 0) (W.refused 5 0 0)) (W.refused 5 1 (gsvWrong r))) .no ≡ 0 → Good r
-    go true b c p q s i = let z : ⊥ = omega arith in absurd z
-    go false false c p q s i = let z : ⊥ = omega arith in absurd z
-    go false true false p q s i = let z : ⊥ = omega arith in absurd z
-    go false true true p q s i = record { few = ltb-false 4 (r .count) p; values = eqb-true (gsvWrong r) 0 q; blank = s }
-
-pub fault-none : (r : Gsv) → Good r → gsvFault r ≡ W.wrote 0
-unfolding gsvFault
-fault-none r g = rw (le-ltb 4 (r .count) (g .few), g .values, g .blank)
-
--- Four fields of which none is wrong, and back.
-pub first-none : (a b c d : ℕ) → firstOf a b c d ≡ 0 → (a ≡ 0) × ((b ≡ 0) × ((c ≡ 0) × (d ≡ 0)))
-unfolding firstOf
-first-none a b c d e = go (eqb a 0) (eqb b 0) (eqb c 0) (eqb d 0) refl refl refl refl e
-  where
-    go : (p q r s : Bool) → eqb a 0 ≡ p → eqb b 0 ≡ q → eqb c 0 ≡ r → eqb d 0 ≡ s → _≡_ {A = ℕ} (cond p (cond q (cond r (cond s 0 4) 3) 2) 1) 0
-        → (a ≡ 0) × ((b ≡ 0) × ((c ≡ 0) × (d ≡ 0)))
-    go true true true true p q r s i = (eqb-true a 0 p, (eqb-true b 0 q, (eqb-true c 0 r, eqb-true d 0 s)))
-    go true true true false p q r s i = let z : ⊥ = omega (arith, i) in absurd z
-    go true true false t p q r s i = let z : ⊥ = omega (arith, i) in absurd z
-    go true false u t p q r s i = let z : ⊥ = omega (arith, i) in absurd z
-    go false v u t p q r s i = let z : ⊥ = omega (arith, i) in absurd z
-
-none-first : (a b c d : ℕ) → a ≡ 0 → b ≡ 0 → c ≡ 0 → d ≡ 0 → firstOf a b c d ≡ 0
-unfolding firstOf
-none-first a b c d p q r s = rw (p, q, r, s)
 
 -- The row of so many entries is lawful.
 pub lawful-gsv : (count : ℕ) → Lawful (gsvRow count)
@@ -165,7 +127,7 @@ entry-long true e =
 entry-long false e = omega arith
 
 pub fits : (t : Talker) (r : Gsv) → length (gsvBody t r) ≤ 76
-unfolding fieldsFor gsvRow
+unfolding gsvFields fieldsFor gsvRow
 fits t r =
     let e : ℕ → List (List ℕ) = λ k. entryFields (used r k) (entryOf r k) in
     let long : (k : ℕ) → total (entryFields (used r k) (entryOf r k)) ≤ 13 = λ k. entry-long (used r k) (entryOf r k) in
@@ -209,6 +171,7 @@ some-width count = omega arith
 
 -- What is written is read back as the same record and talker.
 pub read-write : (t : Talker) (r : Gsv) → length (r .entries) ≡ 4 → Good r → readLine (asLine (gsvBody t r)) ≡ theGsv t r
+unfolding gsvFields
 read-write t r four good =
     let a = talkerText t ++ ascii "GSV" in
     let three : Clean (ascii "GSV") = ((lit< tt, lit< tt), ((lit< tt, lit< tt), ((lit< tt, lit< tt), tt))) in

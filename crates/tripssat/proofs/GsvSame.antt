@@ -1,5 +1,5 @@
--- A line that reads as a GSV sentence passed the line rule and has the address of GSV, since no other address gives such a sentence. So
--- what was read of it has no fault. And it is written as the same bytes: the row of its entries keeps them, and the address is the
+-- A line that reads as a GSV sentence passed the line rule and has the address of GSV, since no other gives such a sentence. So what was
+-- read of it has no fault. And it is written as the same bytes: the row of its entries keeps them, and the address is the
 -- talker's bytes and GSV.
 use Prim.Native.Nat.{ℕ, zero, suc, _+_, _-_, _≤_, _<_}
 use lib.Dec.{eqb, ltb, lit<, lit≤}
@@ -10,23 +10,11 @@ use mathlib.Core.List.{List, [], _∷_, _++_}
 use mathlib.Core.Path.{_∙_, _≡_, ap, refl, subst, sym}
 use native.Mathlib.Omega.{arith}
 use Rattle.address.specs.declared.Address.{Address}
-use Rattle.address.specs.declared.Address.the-variants.{Standard, Maker, Unknown}
-use Rattle.address.specs.declared.Kind.{Kind}
+use Rattle.address.specs.declared.Address.the-variants.{Standard}
 use Rattle.address.specs.declared.Kind.the-variants as K
-use Rattle.address.specs.declared.Pir.{Pir}
-use Rattle.address.specs.declared.Pir.the-variants as P
 use Rattle.address.specs.declared.Talker.{Talker}
 use Rattle.address.specs.Address.{addressOf}
-use Rattle.commands.specs.Pirea.{pireaRow}
-use Rattle.commands.specs.Pirer.{pirerRow}
-use Rattle.commands.specs.Pirpa.{pirpaRow}
-use Rattle.commands.specs.Pirpr.{pirprRow}
-use Rattle.commands.specs.Pirsa.{pirsaRow}
-use Rattle.commands.specs.Pirsr.{pirsrRow}
-use Rattle.commands.specs.Pirta.{pirtaRow}
-use Rattle.commands.specs.Pirtr.{pirtrRow}
 use Rattle.digits.specs.Ascii.{ascii}
-use Rattle.digits.proofs.Bools.{true-false}
 use Rattle.fields.specs.Fields.{fieldsOf, joinFields}
 use Rattle.fields.specs.Places.{theFields}
 use Rattle.fields.proofs.Joining.{join-fields, joinAll}
@@ -34,20 +22,14 @@ use Rattle.fields.proofs.Splitting.{first-field}
 use Rattle.forms.specs.Got.{pick}
 use Rattle.line.specs.Line.{asLine, bodyOf, lineRefusal}
 use Rattle.line.proofs.Form.{accepted}
-use Rattle.navigation.specs.Gga.{ggaRow}
-use Rattle.navigation.specs.Gll.{gllRow}
-use Rattle.navigation.specs.Rmc.{rmcRow}
-use Rattle.navigation.specs.Vtg.{vtgRow}
-use Rattle.navigation.specs.Zda.{zdaRow}
 use Rattle.reading.specs.Lines.{addressed, readBody, readLine}
+use Rattle.reading.proofs.OnlyGsv.{no-gsv, only-gsv}
 use Rattle.reading.proofs.Order.{sound}
 use Rattle.records.specs.Blank.{aloneOf}
 use Rattle.records.specs.declared.Reading.{Reading}
-use Rattle.records.specs.declared.Sentence.{Sentence}
 use Rattle.records.specs.declared.Sentence.the-variants as S
-use Rattle.row.specs.Kind.{answerBy, readBy}
-use Rattle.row.specs.Row.{Row, one}
-use Rattle.satellites.specs.Active.{gsaBeside, gsaMade, gsaRow}
+use Rattle.row.specs.Kind.{answerBy}
+use Rattle.row.specs.Row.{one}
 use Rattle.satellites.specs.View.{entriesOf, entryIf, gsvBeside, gsvMade, gsvOf, gsvRow, gsvWith}
 use Rattle.satellites.specs.View as View
 use Rattle.sealing.specs.Body.{talkerText}
@@ -56,86 +38,8 @@ use Rattle.writesat.specs.Gsv.{gsvBody, gsvFields}
 use Rattle.rowlaws.proofs.FormLaws.{lawful-exact}
 use Rattle.rowlaws.proofs.SameLaws.{_⊜_, Keeps, fields-same, keeps-one, same-exact}
 use Rattle.rowlaws.proofs.EntryLaws.{lawful-entryIf, same-entryIf}
-use Rattle.tripssat.proofs.Gsv.{Good, write-read}
-
--- Whether a sentence is GSV.
-abbrev isGsv : Sentence → Bool
-isGsv (S.Gsv t) = true
-isGsv (S.Gga t r) = false
-isGsv (S.Gll t r) = false
-isGsv (S.Gsa t) = false
-isGsv (S.Rmc t r) = false
-isGsv (S.Vtg t r) = false
-isGsv (S.Zda t r) = false
-isGsv (S.Pr r) = false
-isGsv (S.Tr r) = false
-isGsv (S.Sr r) = false
-isGsv S.Er = false
-isGsv (S.Pa r) = false
-isGsv (S.Ta r) = false
-isGsv (S.Sa r) = false
-isGsv (S.Ea r) = false
-isGsv (S.Refused n f) = false
-
--- A refusal is no GSV sentence.
-no-gsv : {P : Type 0} (n f : ℕ) (t : Talker) → S.Refused n f ≡ S.Gsv t → P
-no-gsv n f t e = absurd (true-false (ap isGsv e) refl)
-
-module _ (t : Talker) (n : ℕ) (field : ℕ → List ℕ) where
-  abbrev Only : Address → Type 0
-  Only a = addressed a n field .sentence ≡ S.Gsv t → a ≡ Standard t K.Gsv
-
-  none-of : (a : Address) → isGsv (addressed a n field .sentence) ≡ false → Only a
-  none-of a o e = absurd (true-false (ap isGsv e) o)
-
-  -- An answer is what it is for, or a refusal.
-  other : {A G R : Type 0} (refuse : ℕ → ℕ → A) (row : Row G R) (make : R → A) (is : A → Bool) → ((no at : ℕ) → is (refuse no at) ≡ false)
-      → ((r : R) → is (make r) ≡ false) → is (readBy refuse row make n field) ≡ false
-  unfolding readBy answerBy
-  other refuse row make is none o = go (row .wrong (row .got field 0) 0 0) (eqb n (row .width))
-    where
-      go : (w : ℕ) (a : Bool) → is (pick a (pick (eqb w 0) (make (row .value (row .got field 0))) (refuse 5 w)) (refuse 4 0)) ≡ false
-      go w true = by (eqb w 0)
-        where
-          by : (b : Bool) → is (pick b (make (row .value (row .got field 0))) (refuse 5 w)) ≡ false
-          by true = o (row .value (row .got field 0))
-          by false = none 5 w
-      go w false = none 4 0
-
-  alone : {G R : Type 0} (row : Row G R) (make : R → Sentence) → ((r : R) → isGsv (make r) ≡ false)
-      → isGsv (readBy S.Refused row make n field) ≡ false
-  alone row make = other S.Refused row make isGsv (λ no at. refl)
-
-  same-talker : (u : Talker) → gsvOf u n field .sentence ≡ S.Gsv t → u ≡ t
-  same-talker u =
-      write-read u field (λ (r : Reading). r .sentence ≡ S.Gsv t → u ≡ t) (λ no at. no-gsv no at t) (λ r places good e. cc) n
-
-  standard-only : (u : Talker) (k : Kind) → Only (Standard u k)
-  standard-only u K.Gga = none-of (Standard u K.Gga) (alone ggaRow (S.Gga u) (λ r. refl))
-  standard-only u K.Gll = none-of (Standard u K.Gll) (alone gllRow (S.Gll u) (λ r. refl))
-  standard-only u K.Gsa =
-      none-of (Standard u K.Gsa)
-      (other View.refused gsaRow (λ v. gsaBeside u (gsaMade v)) (λ (x : Reading). isGsv (x .sentence)) (λ no at. refl) (λ r. refl))
-  standard-only u K.Gsv = λ e. ap (λ (x : Talker). Standard x K.Gsv) (same-talker u e)
-  standard-only u K.Rmc = none-of (Standard u K.Rmc) (alone rmcRow (S.Rmc u) (λ r. refl))
-  standard-only u K.Vtg = none-of (Standard u K.Vtg) (alone vtgRow (S.Vtg u) (λ r. refl))
-  standard-only u K.Zda = none-of (Standard u K.Zda) (alone zdaRow (S.Zda u) (λ r. refl))
-
-  maker-only : (k : Pir) → Only (Maker k)
-  maker-only P.Pr = none-of (Maker P.Pr) (alone pirprRow S.Pr (λ r. refl))
-  maker-only P.Tr = none-of (Maker P.Tr) (alone pirtrRow S.Tr (λ r. refl))
-  maker-only P.Sr = none-of (Maker P.Sr) (alone pirsrRow S.Sr (λ r. refl))
-  maker-only P.Er = none-of (Maker P.Er) (alone pirerRow (λ v. S.Er) (λ r. refl))
-  maker-only P.Pa = none-of (Maker P.Pa) (alone pirpaRow S.Pa (λ r. refl))
-  maker-only P.Ta = none-of (Maker P.Ta) (alone pirtaRow S.Ta (λ r. refl))
-  maker-only P.Sa = none-of (Maker P.Sa) (alone pirsaRow S.Sa (λ r. refl))
-  maker-only P.Ea = none-of (Maker P.Ea) (alone pireaRow S.Ea (λ r. refl))
-
-  -- No other address gives a GSV sentence.
-  only : (a : Address) → Only a
-  only (Standard u k) = standard-only u k
-  only (Maker k) = maker-only k
-  only Unknown = none-of Unknown refl
+use Rattle.writesat.proofs.GoodLaws.{Good}
+use Rattle.tripssat.proofs.Gsv.{write-read}
 
 -- The fields of a line's body by their numbers, the address as 0; and how many stand after it.
 abbrev fields : List ℕ → ℕ → List ℕ
@@ -151,7 +55,7 @@ module _ (l : List ℕ) (t : Talker) (e : readLine l .sentence ≡ S.Gsv t) wher
     where
       go : (b : Bool) → eqb (lineRefusal l) 0 ≡ b → pick b (readBody (bodyOf l)) (aloneOf (S.Refused (lineRefusal l) 0)) .sentence ≡ S.Gsv t
           → (lineRefusal l ≡ 0) × (addressOf (bodyOf l) ≡ Standard t K.Gsv)
-      go true q i = (eqb-true (lineRefusal l) 0 q, only t (number l) (fields l) (addressOf (bodyOf l)) i)
+      go true q i = (eqb-true (lineRefusal l) 0 q, only-gsv t (number l) (fields l) (addressOf (bodyOf l)) i)
       go false q i = no-gsv (lineRefusal l) 0 t i
 
   -- The line is read as the fields of GSV.
@@ -229,6 +133,7 @@ module _ (l : List ℕ) (t : Talker) (e : readLine l .sentence ≡ S.Gsv t) wher
 
   -- What is written has the body's own fields behind its own address.
   body-same : gsvBody t (readLine l .gsv) ≡ bodyOf l
+  unfolding gsvFields
   body-same = let f = first-field (bodyOf l) in go (f .0) (f .1) (f .2)
     where
       go : (a : List ℕ) (fs : List (List ℕ)) → fieldsOf (bodyOf l) ≡ a ∷ fs → gsvBody t (readLine l .gsv) ≡ bodyOf l

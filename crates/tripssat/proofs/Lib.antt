@@ -1,4 +1,3 @@
-pub mod Lists
 pub mod Gsa
 pub mod Gsv
 pub mod GsvSame

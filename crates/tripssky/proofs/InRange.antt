@@ -14,7 +14,7 @@ use Rattle.records.specs.declared.Entry.{Entry}
 use Rattle.records.specs.Blank.{blankEntry}
 use Rattle.sealing.specs.declared.Written.{Written}
 use Rattle.sealing.specs.Written.{pick, refused, wrote}
-use Rattle.tripssat.proofs.Gsv.{blank-is}
+use Rattle.rowlaws.proofs.EntryLaws.{blank-is}
 use Rattle.records.specs.Blank.{isBlank}
 use Rattle.sky.specs.declared.Table.{Table}
 use Rattle.sky.specs.Group.{numbered, repeats}

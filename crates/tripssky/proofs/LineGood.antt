@@ -18,8 +18,9 @@ use Rattle.ranges.specs.Ranges.{outside}
 use Rattle.trips.proofs.Known.{Zero, all-zero, zero-all}
 use Rattle.trips.proofs.Ranged.{in-outside}
 use Rattle.trips.proofs.Values.{inside}
-use Rattle.tripssat.proofs.Gsv.{Good, blank-is}
-use Rattle.tripssat.proofs.Lists.{all-four}
+use Rattle.rowlaws.proofs.EntryLaws.{blank-is}
+use Rattle.writesat.proofs.GoodLaws.{Good}
+use Rattle.trips.proofs.Lists.{all-four}
 use Rattle.writesat.specs.Gsv.{entryAfters, entryOf, gsvWrong, restBlank}
 use Rattle.records.specs.Blank.{isBlank}
 use Rattle.sky.specs.Group.{linesFor, entriesAt, usedOf}

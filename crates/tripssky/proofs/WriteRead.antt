@@ -20,7 +20,7 @@ use Rattle.lines.proofs.CutLaws.{cut-joined}
 use Rattle.reading.specs.Lines.{readLine}
 use Rattle.records.specs.declared.Entry.{Entry}
 use Rattle.records.specs.declared.Gsv.{Gsv}
-use Rattle.tripssat.proofs.Gsv.{Good}
+use Rattle.writesat.proofs.GoodLaws.{Good}
 use Rattle.tripssat.proofs.GsvSame as GsvSame
 use Rattle.writesat.specs.Gsv.{gsvBody}
 use Rattle.sky.specs.Group.{whole, refused, linesFor, entriesAt, repeats, usedOf, ended, groupOf}

@@ -16,10 +16,10 @@ abbrev pub satelliteField : Gsa → ℕ → List ℕ
 satelliteField r k = getD (satellite .text (satelliteIn (r .satellites) k)) 0 []
 
 -- The first value outside its range, by the number of its field, or 0; the fields; the body.
-abbrev pub gsaWrong : Gsa → ℕ
+unfoldable pub gsaWrong : Gsa → ℕ
 gsaWrong r = faultBy gsaRow (gsaValues r)
 
-abbrev pub gsaFields : Gsa → List (List ℕ)
+unfoldable pub gsaFields : Gsa → List (List ℕ)
 gsaFields r = fieldsFor gsaRow (gsaValues r)
 
 abbrev pub gsaBody : Talker → Gsa → List ℕ

@@ -65,7 +65,7 @@ entryFields on e = entryIf on .text e
 abbrev pub gsvValues : Gsv → Values
 gsvValues r = (r .lines, (r .line, (r .satellites, (entryOf r 0, (entryOf r 1, (entryOf r 2, entryOf r 3))))))
 
-abbrev pub gsvFields : Gsv → List (List ℕ)
+unfoldable pub gsvFields : Gsv → List (List ℕ)
 gsvFields r = fieldsFor (gsvRow (r .count)) (gsvValues r)
 
 abbrev pub gsvBody : Talker → Gsv → List ℕ

@@ -9,7 +9,7 @@ use lib.Dec.{ltb, lit<}
 use lib.ListN.{length, getD, take, drop, length-take, length-drop, length-map}
 use lib.Seq.{take-all, take-take, take-nil, drop-nil, length-take-le, getD-take, getD-drop}
 use borrow.Author.Tests.{ltb-true, ltb-false}
-use Rattle.tripssat.proofs.Lists.{all-four}
+use Rattle.trips.proofs.Lists.{all-four}
 use Rattle.sky.specs.Group.{linesFor, entriesAt}
 use Rattle.sky.proofs.Numbers.{some-line, nine-lines, room, entries-at}
 

@@ -23,11 +23,13 @@ use Rattle.sealing.proofs.Sealing.{line-length}
 use Rattle.writesat.specs.Gsv.{entryOf, used, entryFields, gsvFields, gsvBody}
 use Rattle.trips.proofs.CleanTexts.{joined-length, total}
 use Rattle.trips.proofs.Known.{address-five}
-use Rattle.tripssat.proofs.Gsv.{total-append}
-use Rattle.tripssat.proofs.Lists.{all-four}
+use Rattle.trips.proofs.CleanTexts.{total-append}
+use Rattle.trips.proofs.Lists.{all-four}
 use Rattle.sky.specs.declared.Table.{Table}
 use Rattle.sky.specs.Group.{linesFor, entriesAt}
 use Rattle.sky.specs.Table.{lineAt, linesFrom, groupText}
+use Rattle.row.specs.Kind.{fieldsFor}
+use Rattle.satellites.specs.View.{gsvRow}
 use Rattle.writesky.specs.Size.{entrySize, sizes, tableSize}
 use Rattle.writesky.proofs.Counts.{lines-are, entries-are, used-part}
 
@@ -61,7 +63,7 @@ four-sizes a b d e (suc (suc (suc (suc (suc c))))) h = let z : ⊥ = omega arith
 
 -- A line of a record with up to four entries.
 body-length : (t : Talker) (v : Gsv) → length (v .entries) ≡ 4 → v .count ≤ 4 → length (gsvBody t v) ≡ 12 + sizes (take (v .count) (v .entries))
-unfolding gsvFields
+unfolding gsvFields fieldsFor gsvRow
 body-length t v four few =
     let e0 = entryFields (used v 0) (entryOf v 0) in
     let e1 = entryFields (used v 1) (entryOf v 1) in
@@ -76,9 +78,10 @@ body-length t v four few =
       length-fixed 1 (v .lines),
       length-fixed 1 (v .line),
       length-fixed 2 (v .satellites),
-      total-append e0 (e1 ++ (e2 ++ e3)),
-      total-append e1 (e2 ++ e3),
-      total-append e2 e3,
+      total-append e0 (e1 ++ (e2 ++ (e3 ++ []))),
+      total-append e1 (e2 ++ (e3 ++ [])),
+      total-append e2 (e3 ++ []),
+      total-append e3 [],
       s,
     )
 

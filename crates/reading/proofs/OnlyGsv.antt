@@ -1,0 +1,123 @@
+-- No address but that of GSV gives a GSV sentence, and it gives one of its own talker.
+use Prim.Native.Nat.{ℕ}
+use lib.Dec.{eqb, ltb}
+use mathlib.Core.Bool.{Bool, true, false}
+use mathlib.Core.List.{List}
+use mathlib.Core.Path.{_≡_, ap, refl}
+use Rattle.address.specs.declared.Address.{Address}
+use Rattle.address.specs.declared.Address.the-variants.{Standard, Maker, Unknown}
+use Rattle.address.specs.declared.Kind.{Kind}
+use Rattle.address.specs.declared.Kind.the-variants as K
+use Rattle.address.specs.declared.Pir.{Pir}
+use Rattle.address.specs.declared.Pir.the-variants as P
+use Rattle.address.specs.declared.Talker.{Talker}
+use Rattle.commands.specs.Pirea.{pireaRow}
+use Rattle.commands.specs.Pirer.{pirerRow}
+use Rattle.commands.specs.Pirpa.{pirpaRow}
+use Rattle.commands.specs.Pirpr.{pirprRow}
+use Rattle.commands.specs.Pirsa.{pirsaRow}
+use Rattle.commands.specs.Pirsr.{pirsrRow}
+use Rattle.commands.specs.Pirta.{pirtaRow}
+use Rattle.commands.specs.Pirtr.{pirtrRow}
+use Rattle.digits.proofs.Bools.{true-false}
+use Rattle.forms.specs.Got.{pick}
+use Rattle.navigation.specs.Gga.{ggaRow}
+use Rattle.navigation.specs.Gll.{gllRow}
+use Rattle.navigation.specs.Rmc.{rmcRow}
+use Rattle.navigation.specs.Vtg.{vtgRow}
+use Rattle.navigation.specs.Zda.{zdaRow}
+use Rattle.records.specs.declared.Reading.{Reading}
+use Rattle.records.specs.declared.Sentence.{Sentence}
+use Rattle.records.specs.declared.Sentence.the-variants as S
+use Rattle.row.specs.Kind.{answerBy, readBy}
+use Rattle.row.specs.Row.{Row}
+use Rattle.satellites.specs.Active.{gsaBeside, gsaMade, gsaRow}
+use Rattle.satellites.specs.View.{entriesOf, gsvBeside, gsvOf, gsvRow, gsvWith, refused, Values}
+use Rattle.reading.specs.Lines.{addressed}
+
+-- Whether a sentence is GSV.
+abbrev isGsv : Sentence → Bool
+isGsv (S.Gsv t) = true
+isGsv (S.Gga t r) = false
+isGsv (S.Gll t r) = false
+isGsv (S.Gsa t) = false
+isGsv (S.Rmc t r) = false
+isGsv (S.Vtg t r) = false
+isGsv (S.Zda t r) = false
+isGsv (S.Pr r) = false
+isGsv (S.Tr r) = false
+isGsv (S.Sr r) = false
+isGsv S.Er = false
+isGsv (S.Pa r) = false
+isGsv (S.Ta r) = false
+isGsv (S.Sa r) = false
+isGsv (S.Ea r) = false
+isGsv (S.Refused n f) = false
+
+-- A refusal is no GSV sentence.
+pub no-gsv : {P : Type 0} (n f : ℕ) (t : Talker) → S.Refused n f ≡ S.Gsv t → P
+no-gsv n f t e = absurd (true-false (ap isGsv e) refl)
+
+module _ (t : Talker) (n : ℕ) (field : ℕ → List ℕ) where
+  abbrev pub Only : Address → Type 0
+  Only a = addressed a n field .sentence ≡ S.Gsv t → a ≡ Standard t K.Gsv
+
+  none-of : (a : Address) → isGsv (addressed a n field .sentence) ≡ false → Only a
+  none-of a o e = absurd (true-false (ap isGsv e) o)
+
+  -- An answer is what it is for, or a refusal.
+  other : {A G R : Type 0} (refuse : ℕ → ℕ → A) (row : Row G R) (make : R → A) (is : A → Bool) → ((no at : ℕ) → is (refuse no at) ≡ false)
+      → ((r : R) → is (make r) ≡ false) → is (readBy refuse row make n field) ≡ false
+  unfolding readBy answerBy
+  other refuse row make is none o = go (row .wrong (row .got field 0) 0 0) (eqb n (row .width))
+    where
+      go : (w : ℕ) (a : Bool) → is (pick a (pick (eqb w 0) (make (row .value (row .got field 0))) (refuse 5 w)) (refuse 4 0)) ≡ false
+      go w true = by (eqb w 0)
+        where
+          by : (b : Bool) → is (pick b (make (row .value (row .got field 0))) (refuse 5 w)) ≡ false
+          by true = o (row .value (row .got field 0))
+          by false = none 5 w
+      go w false = none 4 0
+
+  alone : {G R : Type 0} (row : Row G R) (make : R → Sentence) → ((r : R) → isGsv (make r) ≡ false)
+      → isGsv (readBy S.Refused row make n field) ≡ false
+  alone row make = other S.Refused row make isGsv (λ no at. refl)
+
+  same-talker : (u : Talker) → gsvOf u n field .sentence ≡ S.Gsv t → u ≡ t
+  unfolding gsvOf gsvWith answerBy
+  same-talker u e =
+      let g = gsvRow (entriesOf n) .got field 0 in
+      go (ltb 4 (entriesOf n)) (eqb (gsvRow (entriesOf n) .wrong g 0 0) 0) (gsvRow (entriesOf n) .wrong g 0 0) (gsvRow (entriesOf n) .value g) e
+    where
+      go : (a b : Bool) (w : ℕ) (v : Values) → pick a (refused 4 0) (pick b (gsvBeside u (entriesOf n) v) (refused 5 w)) .sentence ≡ S.Gsv t
+          → u ≡ t
+      go true b w v e = no-gsv 4 0 t e
+      go false true w v e = cc
+      go false false w v e = no-gsv 5 w t e
+
+  standard-only : (u : Talker) (k : Kind) → Only (Standard u k)
+  standard-only u K.Gga = none-of (Standard u K.Gga) (alone ggaRow (S.Gga u) (λ r. refl))
+  standard-only u K.Gll = none-of (Standard u K.Gll) (alone gllRow (S.Gll u) (λ r. refl))
+  standard-only u K.Gsa =
+      none-of (Standard u K.Gsa)
+      (other refused gsaRow (λ v. gsaBeside u (gsaMade v)) (λ (x : Reading). isGsv (x .sentence)) (λ no at. refl) (λ r. refl))
+  standard-only u K.Gsv = λ e. ap (λ (x : Talker). Standard x K.Gsv) (same-talker u e)
+  standard-only u K.Rmc = none-of (Standard u K.Rmc) (alone rmcRow (S.Rmc u) (λ r. refl))
+  standard-only u K.Vtg = none-of (Standard u K.Vtg) (alone vtgRow (S.Vtg u) (λ r. refl))
+  standard-only u K.Zda = none-of (Standard u K.Zda) (alone zdaRow (S.Zda u) (λ r. refl))
+
+  maker-only : (k : Pir) → Only (Maker k)
+  maker-only P.Pr = none-of (Maker P.Pr) (alone pirprRow S.Pr (λ r. refl))
+  maker-only P.Tr = none-of (Maker P.Tr) (alone pirtrRow S.Tr (λ r. refl))
+  maker-only P.Sr = none-of (Maker P.Sr) (alone pirsrRow S.Sr (λ r. refl))
+  maker-only P.Er = none-of (Maker P.Er) (alone pirerRow (λ v. S.Er) (λ r. refl))
+  maker-only P.Pa = none-of (Maker P.Pa) (alone pirpaRow S.Pa (λ r. refl))
+  maker-only P.Ta = none-of (Maker P.Ta) (alone pirtaRow S.Ta (λ r. refl))
+  maker-only P.Sa = none-of (Maker P.Sa) (alone pirsaRow S.Sa (λ r. refl))
+  maker-only P.Ea = none-of (Maker P.Ea) (alone pireaRow S.Ea (λ r. refl))
+
+  -- No other address gives a GSV sentence.
+  pub only-gsv : (a : Address) → Only a
+  only-gsv (Standard u k) = standard-only u k
+  only-gsv (Maker k) = maker-only k
+  only-gsv Unknown = none-of Unknown refl
