@@ -8,7 +8,7 @@ use native.Mathlib.Omega.{arith}
 use lib.Dec.{eqb, ltb}
 use borrow.Author.Tests.{ltb-true, eqb-true}
 use Rattle.digits.proofs.Bools.{and-left, and-right}
-use Rattle.ranges.specs.Ranges.{outside, rangeWrong, signedWrong, portWrong, alikeWrong}
+use Rattle.ranges.specs.Ranges.{alikeWrong, outside, portWrong, rangeWrong, signedWrong}
 use Rattle.records.specs.declared.DatumAsked.{DatumAsked}
 use Rattle.records.specs.declared.Gsa.{Gsa}
 use Rattle.records.specs.declared.Gsv.{Gsv}
@@ -18,7 +18,6 @@ use Rattle.records.specs.declared.Sentence.{Sentence}
 use Rattle.records.specs.declared.Sentence.the-variants as S
 use Rattle.reading.specs.Lines.{readLine}
 use Rattle.sealing.specs.Written.{pick, faultAt}
-use Rattle.trips.proofs.Known.{all-zero, zero-all}
 use Rattle.trips.proofs.Ranged.{in-outside}
 use Rattle.writecom.specs.Pirea.{pireaWrong}
 use Rattle.writecom.specs.Pirpa.{pirpaWrong}
@@ -34,6 +33,17 @@ use Rattle.receiver.specs.Command.{Outcome, refuses, replies, namedPort, portAs
 use Rattle.claims.proofs.Replies.{InRange, in-range, port-set}
 use Rattle.claims.proofs.Rewriting.{Writable}
 use Rattle.claims.proofs.Writing as Writing
+use Rattle.rowlaws.proofs.Laws.{near-zero}
+use Rattle.row.specs.Kind.{faultBy}
+use Rattle.records.specs.Wrong.{nearOf}
+use lib.IntN.{ℤ}
+use Rattle.commands.specs.Pirpr.{pirprRow}
+use Rattle.commands.specs.Pirpa.{pirpaRow}
+use Rattle.commands.specs.Pirtr.{pirtrRow}
+use Rattle.commands.specs.Pirta.{pirtaRow}
+use Rattle.commands.specs.Pirsr.{pirsrRow}
+use Rattle.commands.specs.Pirsa.{pirsaRow}
+use Rattle.commands.specs.Pirea.{pireaRow}
 
 -- A refusal, or a reply without a fault.
 abbrev pub Faultless : Outcome → Type 0
@@ -66,56 +76,82 @@ told-of s zero g = g .first
 told-of s (suc n) g = g .second
 
 port-good : (n : ℕ) (q : Port) → outside 0 1 n ≡ 0 → portGood q ≡ true → pirpaWrong (record { port = n; rate = q .rate; protocol = q .protocol; mask = q .mask }) ≡ 0
-unfolding pirpaWrong portGood
+unfolding faultBy pirpaRow nearOf rangeWrong portGood
 port-good n q e g =
     let g1 = and-right (eqb (outside 1200 115200 (q .rate)) 0) _ g in
-    zero-all _ (e, (eqb-true (outside 1200 115200 (q .rate)) 0 (and-left _ _ g), (eqb-true (outside 0 4 (q .protocol)) 0 (and-left _ _ g1), (eqb-true (portWrong true (q .mask)) 0 (and-right (eqb (outside 0 4 (q .protocol)) 0) _ g1), tt))))
+    let rate = eqb-true (outside 1200 115200 (q .rate)) 0 (and-left _ _ g) in
+    let protocol = eqb-true (outside 0 4 (q .protocol)) 0 (and-left _ _ g1) in
+    let mask = eqb-true (portWrong true (q .mask)) 0 (and-right (eqb (outside 0 4 (q .protocol)) 0) _ g1) in
+    rw (e, rate, protocol, mask)
 
 asked-good : (r : PortAsked) → pirprWrong r ≡ 0 → r .rate .there ≡ true → portGood (portAsked r) ≡ true
-unfolding pirprWrong portGood rangeWrong
+unfolding faultBy pirprRow portGood rangeWrong
 asked-good r e t =
-    let z = all-zero _ e in
-    let a = alike (r .rate .there) (r .protocol .there) (rangeWrong 0 4 (r .protocol .there) (r .protocol .value)) (z .1 .1 .0) in
-    let b = alike (r .rate .there) (r .mask .there) (portWrong (r .mask .there) (r .mask .value)) (z .1 .1 .1 .0) in
-    let rate : outside 1200 115200 (r .rate .value) ≡ 0 = sym (ap (λ (x : Bool). rangeWrong 1200 115200 x (r .rate .value)) t) ∙ z .1 .0 in
+    let z0 = near-zero _ _ _ e in
+    let z1 = near-zero _ _ _ (z0 .1) in
+    let z2 = near-zero _ _ _ (z1 .1) in
+    let z3 = near-zero _ _ _ (z2 .1) in
+    let a = alike (r .rate .there) (r .protocol .there) (rangeWrong 0 4 (r .protocol .there) (r .protocol .value)) (z2 .0) in
+    let b = alike (r .rate .there) (r .mask .there) (portWrong (r .mask .there) (r .mask .value)) (z3 .0) in
+    let rate : outside 1200 115200 (r .rate .value) ≡ 0 = sym (ap (λ (x : Bool). rangeWrong 1200 115200 x (r .rate .value)) t) ∙ z1 .0 in
     let protocol : outside 0 4 (r .protocol .value) ≡ 0 = sym (ap (λ (x : Bool). rangeWrong 0 4 x (r .protocol .value)) (sym (a .0) ∙ t)) ∙ a .1 in
     let mask : portWrong true (r .mask .value) ≡ 0 = sym (ap (λ (x : Bool). portWrong x (r .mask .value)) (sym (b .0) ∙ t)) ∙ b .1 in
     rw (rate, protocol, mask)
 
 port-faultless : (s : Settings) (p : ℕ) (r : PortAsked) → InRange s → p < 2 → pirprWrong r ≡ 0 → pirpaWrong (portTold (afterPort s p r) (namedPort p r)) ≡ 0
-unfolding pirprWrong
-port-faultless s p r g h e = port-good (namedPort p r) (portOf (afterPort s p r) (namedPort p r)) (named-in p r h (all-zero _ e .0)) (go (r .rate .there) refl)
+unfolding faultBy pirprRow
+port-faultless s p r g h e = port-good (namedPort p r) (portOf (afterPort s p r) (namedPort p r)) (named-in p r h (near-zero _ _ _ e .0)) (go (r .rate .there) refl)
   where
     go : (b : Bool) → r .rate .there ≡ b → portGood (portOf (pick b (withPort s (namedPort p r) (portAsked r)) s) (namedPort p r)) ≡ true
     go true t = ap portGood (port-set (namedPort p r) s (portAsked r)) ∙ asked-good r e t
     go false t = told-of s (namedPort p r) g
 
+asked-datum : (r : DatumAsked) → pirtrWrong r ≡ 0
+    → (rangeWrong 0 4 (r .datum .there) (r .datum .value) ≡ 0)
+    × (alikeWrong (r .datum .there) (r .zone .there) (signedWrong 839 (r .zone .there) (r .zone .minutes)) ≡ 0)
+unfolding faultBy pirtrRow
+asked-datum r e = let z0 = near-zero _ _ _ e in let z1 = near-zero _ _ _ (z0 .1) in (z0 .0, z1 .0)
+
+datum-told : (d : ℕ) (z : ℤ) → outside 0 4 d ≡ 0 → signedWrong 839 true z ≡ 0 → pirtaWrong (record { datum = d; zone = z }) ≡ 0
+unfolding faultBy pirtaRow nearOf
+datum-told d z e f = rw (e, f)
+
 datum-faultless : (s : Settings) (r : DatumAsked) → InRange s → pirtrWrong r ≡ 0 → pirtaWrong (datumTold (afterDatum s r)) ≡ 0
-unfolding pirtrWrong pirtaWrong rangeWrong
+unfolding rangeWrong
 datum-faultless s r g e = go (r .datum .there) refl
   where
     go : (b : Bool) → r .datum .there ≡ b
         → pirtaWrong (datumTold (pick b (record { first = s .first; second = s .second; datum = r .datum .value; zone = r .zone .minutes; gps = s .gps; glonass = s .glonass; code = s .code }) s)) ≡ 0
     go true t =
-        let z = all-zero _ e in
-        let a = alike (r .datum .there) (r .zone .there) (signedWrong 839 (r .zone .there) (r .zone .minutes)) (z .1 .0) in
-        zero-all _ (sym (ap (λ (x : Bool). rangeWrong 0 4 x (r .datum .value)) t) ∙ z .0, (sym (ap (λ (x : Bool). signedWrong 839 x (r .zone .minutes)) (sym (a .0) ∙ t)) ∙ a .1, tt))
-    go false t = zero-all _ (g .datum, (g .zone, tt))
+        let z = asked-datum r e in
+        let a = alike (r .datum .there) (r .zone .there) (signedWrong 839 (r .zone .there) (r .zone .minutes)) (z .1) in
+        datum-told (r .datum .value) (r .zone .minutes) (sym (ap (λ (x : Bool). rangeWrong 0 4 x (r .datum .value)) t) ∙ z .0)
+        (sym (ap (λ (x : Bool). signedWrong 839 x (r .zone .minutes)) (sym (a .0) ∙ t)) ∙ a .1)
+    go false t = datum-told (s .datum) (s .zone) (g .datum) (g .zone)
 
 mask-in : (hi : ℕ) (there : Bool) (v old : ℕ) → rangeWrong 0 hi there v ≡ 0 → outside 0 hi old ≡ 0 → outside 0 hi (cond there v old) ≡ 0
 unfolding rangeWrong
 mask-in hi true v old e f = e
 mask-in hi false v old e f = f
 
+asked-masks : (r : MasksAsked) → pirsrWrong r ≡ 0
+    → (rangeWrong 0 4294967295 (r .gps .there) (r .gps .value) ≡ 0) × (rangeWrong 0 16777215 (r .glonass .there) (r .glonass .value) ≡ 0)
+unfolding faultBy pirsrRow
+asked-masks r e = let z0 = near-zero _ _ _ e in let z1 = near-zero _ _ _ (z0 .1) in (z0 .0, z1 .0)
+
+masks-told : (a b : ℕ) → outside 0 4294967295 a ≡ 0 → outside 0 16777215 b ≡ 0 → pirsaWrong (record { gps = a; glonass = b }) ≡ 0
+unfolding faultBy pirsaRow nearOf
+masks-told a b e f = rw (e, f)
+
 masks-faultless : (s : Settings) (r : MasksAsked) → InRange s → pirsrWrong r ≡ 0 → pirsaWrong (masksTold (afterMasks s r)) ≡ 0
-unfolding pirsrWrong pirsaWrong
 masks-faultless s r g e =
-    let z = all-zero _ e in
-    zero-all _ (mask-in 4294967295 (r .gps .there) (r .gps .value) (s .gps) (z .0) (g .gps), (mask-in 16777215 (r .glonass .there) (r .glonass .value) (s .glonass) (z .1 .0) (g .glonass), tt))
+    let z = asked-masks r e in
+    masks-told _ _ (mask-in 4294967295 (r .gps .there) (r .gps .value) (s .gps) (z .0) (g .gps))
+    (mask-in 16777215 (r .glonass .there) (r .glonass .value) (s .glonass) (z .1) (g .glonass))
 
 code-faultless : (s : Settings) → InRange s → pireaWrong (codeTold s) ≡ 0
-unfolding pireaWrong
-code-faultless s g = zero-all _ (g .code, tt)
+unfolding faultBy pireaRow nearOf
+code-faultless s g = rw (g .code)
 
 sentence-faultless : (s : Settings) (p : ℕ) (x : Sentence) (a : Gsa) (v : Gsv) → InRange s → p < 2 → Writable x a v → Faultless (sentenceOutcome s p x)
 sentence-faultless s p (S.Pr r) a v g h w = zero-fault _ (port-faultless s p r g h (w .0))

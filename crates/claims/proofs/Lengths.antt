@@ -29,7 +29,7 @@ use Rattle.reading.specs.Lines.{readLine}
 use Rattle.writecom.specs.Pirea.{pireaBody}
 use Rattle.writenav.specs.Gga.{ggaBody, ggaWrong}
 use Rattle.writenav.specs.Rmc.{rmcBody, rmcWrong}
-use Rattle.writesat.specs.Gsa.{gsaBody, gsaWrong}
+use Rattle.writesat.specs.Gsa.{gsaBody, gsaFields, gsaWrong}
 use Rattle.tripscom.proofs.Commands as C
 use Rattle.row.specs.Kind.{faultBy, fieldsFor}
 use Rattle.navigation.specs.Gga.{ggaRow}

@@ -14,10 +14,10 @@ use Rattle.address.specs.Address.{lookUp, knownOf, commaFree, addressOf}
 use Rattle.fields.specs.Fields.{onto, fieldsOf}
 use Rattle.forms.specs.Fixed.{fixedOf}
 use Rattle.forms.specs.Got.{maybeOf, withinOf}
-use Rattle.records.specs.Answers.{answered, counted, answeredBeside}
-use Rattle.records.specs.Wrong.{nearOf, firstWrong}
-use Rattle.satellites.specs.View.{firstOf, entryAt, entryFrom, entryForm, entriesOf, gsvFrom, gsvWith, gsvOf}
-use Rattle.navigation.specs.Gga.{ggaOf}
+use Rattle.row.specs.Kind.{answerBy, readBy}
+use Rattle.records.specs.Wrong.{nearOf}
+use Rattle.satellites.specs.View.{firstOf, entryAt, entryFrom, entriesOf, gsvRow, gsvWith, gsvOf}
+use Rattle.navigation.specs.Gga.{ggaRow}
 use Rattle.reading.specs.Lines.{readBody, readLine}
 use Rattle.text.specs.Numbers.{digitsWithin, decimalText}
 use Rattle.rows.specs.Row.{fiveBytes, addressText, answerText, rowText}
@@ -29,5 +29,5 @@ listed n line = rowText n (ascii line) (readLine (ascii line)) false
 pub worked : (listed 1 "$GPGSV,5,5,17,77,71,048,53*43\r\n" ≡ ascii "1 GPGSV ok\n")
     × ((listed 2 "$GPSGG,CSTART*6B\r\n" ≡ ascii "2 - refused 3 0\n")
     × (listed 3 "$GPGGA,000008.00,,,,,0,,,,,,*40\r\n" ≡ ascii "3 GPGGA refused 4 0\n"))
-unfolding isDigit digitsFrom digitsOf hexDigit hexOf same noneOf bodyByte bodyBytes xorFrom xorOf endForm lineForm endGives lineRefusal lookUp knownOf commaFree addressOf onto fieldsOf fixedOf maybeOf withinOf answered counted answeredBeside nearOf firstWrong firstOf entryAt entryFrom entryForm entriesOf gsvFrom gsvWith gsvOf ggaOf readBody readLine bind digitsWithin decimalText fiveBytes addressText answerText
+unfolding isDigit digitsFrom digitsOf hexDigit hexOf same noneOf bodyByte bodyBytes xorFrom xorOf endForm lineForm endGives lineRefusal lookUp knownOf commaFree addressOf onto fieldsOf fixedOf maybeOf withinOf readBy answerBy nearOf firstOf entryAt entryFrom entriesOf gsvRow gsvWith gsvOf ggaRow readBody readLine bind digitsWithin decimalText fiveBytes addressText answerText
 worked = (refl, (refl, refl))

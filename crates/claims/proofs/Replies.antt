@@ -8,7 +8,7 @@ use lib.Dec.{eqb, ltb}
 use lib.ListN.{length, take}
 use borrow.Author.Tests.{eq-eqb, eqb-true}
 use Rattle.digits.proofs.Bools.{and-left, and-right}
-use Rattle.ranges.specs.Ranges.{outside, signedWrong}
+use Rattle.ranges.specs.Ranges.{outside, rangeWrong, signedWrong}
 use Rattle.records.specs.declared.DatumAsked.{DatumAsked}
 use Rattle.records.specs.declared.MasksAsked.{MasksAsked}
 use Rattle.records.specs.declared.PortAsked.{PortAsked}
@@ -18,7 +18,6 @@ use Rattle.records.specs.Blank.{aloneOf}
 use Rattle.reading.specs.Lines.{readLine}
 use Rattle.sealing.specs.declared.Written.{Written}
 use Rattle.sealing.specs.Written.{pick, writtenOf, Writes}
-use Rattle.trips.proofs.Known.{all-zero}
 use Rattle.writecom.specs.Pirpa.{pirpaWrong}
 use Rattle.writecom.specs.Pirsa.{pirsaWrong}
 use Rattle.writecom.specs.Pirta.{pirtaWrong}
@@ -28,6 +27,11 @@ use Rattle.receiver.specs.declared.Settings.{Settings}
 use Rattle.receiver.specs.Settings.{portOf, withPort, portGood, settingsGood}
 use Rattle.receiver.specs.Command.{refuses, replies, namedPort, portAsked, afterPort, afterDatum, afterMasks, portTold, datumTold, masksTold, codeTold, sentenceOutcome, outcomeOf, settingsAfter, Does}
 use Rattle.claims.proofs.Writing as Writing
+use Rattle.rowlaws.proofs.Laws.{near-zero}
+use Rattle.row.specs.Kind.{faultBy}
+use Rattle.commands.specs.Pirpa.{pirpaRow}
+use Rattle.commands.specs.Pirta.{pirtaRow}
+use Rattle.commands.specs.Pirsa.{pirsaRow}
 
 -- A command that replies, and answers a length.
 module _ {s after : Settings} {fault : Written} {body out : List ℕ} {d : Done} {left : List ℕ} (w : Does s (replies after fault body) out d left) where
@@ -91,8 +95,13 @@ range-in s g = rw (g .first, g .second, g .datum, g .zone, g .gps, g .glonass, g
 
 -- A port whose reply has no fault.
 port-in : (n : ℕ) (q : Port) → pirpaWrong (record { port = n; rate = q .rate; protocol = q .protocol; mask = q .mask }) ≡ 0 → portGood q ≡ true
-unfolding pirpaWrong portGood
-port-in n q e = let z = all-zero _ e in rw (z .1 .0, z .1 .1 .0, z .1 .1 .1 .0)
+unfolding faultBy pirpaRow rangeWrong portGood
+port-in n q e =
+    let z0 = near-zero _ _ _ e in
+    let z1 = near-zero _ _ _ (z0 .1) in
+    let z2 = near-zero _ _ _ (z1 .1) in
+    let z3 = near-zero _ _ _ (z2 .1) in
+    rw (z1 .0, z2 .0, z3 .0)
 
 with-in : (n : ℕ) (s : Settings) (q : Port) → InRange s → portGood q ≡ true → InRange (withPort s n q)
 with-in zero s q g e = record { first = e; second = g .second; datum = g .datum; zone = g .zone; gps = g .gps; glonass = g .glonass; code = g .code }
@@ -111,17 +120,23 @@ after-port-in s p r g e = go (r .rate .there) e
     go false i = g
 
 after-datum-in : (s : Settings) (r : DatumAsked) → InRange s → pirtaWrong (datumTold (afterDatum s r)) ≡ 0 → InRange (afterDatum s r)
-unfolding pirtaWrong
+unfolding faultBy pirtaRow
 after-datum-in s r g e = go (r .datum .there) e
   where
     go : (b : Bool) → pirtaWrong (datumTold (pick b (record { first = s .first; second = s .second; datum = r .datum .value; zone = r .zone .minutes; gps = s .gps; glonass = s .glonass; code = s .code }) s)) ≡ 0
         → InRange (pick b (record { first = s .first; second = s .second; datum = r .datum .value; zone = r .zone .minutes; gps = s .gps; glonass = s .glonass; code = s .code }) s)
-    go true i = let z = all-zero _ i in record { first = g .first; second = g .second; datum = z .0; zone = z .1 .0; gps = g .gps; glonass = g .glonass; code = g .code }
+    go true i =
+        let z0 = near-zero _ _ _ i in
+        let z1 = near-zero _ _ _ (z0 .1) in
+        record { first = g .first; second = g .second; datum = z0 .0; zone = z1 .0; gps = g .gps; glonass = g .glonass; code = g .code }
     go false i = g
 
 after-masks-in : (s : Settings) (r : MasksAsked) → InRange s → pirsaWrong (masksTold (afterMasks s r)) ≡ 0 → InRange (afterMasks s r)
-unfolding pirsaWrong
-after-masks-in s r g e = let z = all-zero _ e in record { first = g .first; second = g .second; datum = g .datum; zone = g .zone; gps = z .0; glonass = z .1 .0; code = g .code }
+unfolding faultBy pirsaRow
+after-masks-in s r g e =
+    let z0 = near-zero _ _ _ e in
+    let z1 = near-zero _ _ _ (z0 .1) in
+    record { first = g .first; second = g .second; datum = g .datum; zone = g .zone; gps = z0 .0; glonass = z1 .0; code = g .code }
 
 -- Settings in range stay in range, whatever the line.
 no-fault : (fault : Written) (body : List ℕ) (room : ℕ) → writtenOf fault body room .no ≡ 0 → fault .no ≡ 0
