@@ -1,6 +1,6 @@
 -- The claims of the library, each under a plain sentence. The argument of each stands in the file that its last line names; what a
 -- function is promised to give stands in its contract, in src/, and in the definition that the contract cites, in specs/.
-use Prim.Native.Nat.{ℕ, _+_, _-_, _≤_, _<_}
+use Prim.Native.Nat.{ℕ, suc, _+_, _-_, _≤_, _<_}
 use mathlib.Core.Path.{_≡_}
 use mathlib.Core.List.{List, [], _∷_, _++_}
 use mathlib.Core.Bool.{true, false}
@@ -28,7 +28,7 @@ use Rattle.address.specs.declared.Address.the-variants.{Unknown}
 use Rattle.address.specs.Address.{addressOf}
 use Rattle.records.specs.declared.Sentence.the-variants.{Refused}
 use Rattle.records.specs.Blank.{aloneOf}
-use Rattle.reading.specs.Lines.{readBody, readLine}
+use Rattle.reading.specs.Lines.{readBody, readLine, refusal, refusalOf}
 use Rattle.reading.proofs.Order as Order
 use Rattle.address.specs.declared.Talker.{Talker}
 use Rattle.records.specs.declared.Gga.{Gga}
@@ -69,6 +69,15 @@ use Rattle.index.specs.declared.Entry as IndexEntry
 use Rattle.index.proofs.Promises as Promises
 use Rattle.index.proofs.Turns as IndexTurns
 use Rattle.host.specs.Index.{setAt}
+use Rattle.rowlaws.proofs.PlaceLaws.{Agree}
+use Rattle.rowlaws.proofs.PlaceDate.{no-such-day}
+use Rattle.calendar.specs.Dates.{dateThree}
+use Rattle.digits.specs.Ascii.{ascii}
+use Rattle.digits.specs.Decimal.{printFixed}
+use Rattle.address.specs.declared.Address.{Address}
+use Rattle.fields.specs.Places.{theFields}
+use Rattle.placeoffive.proofs.All as Fives
+use Rattle.placeoffive.proofs.Lines as Lines
 
 -- What the line rule accepts is `$`, a body of 1 to 76 allowed bytes, `*`, the two digits of its XOR, CR, LF ..
 pub line-accepted : (l : List ℕ) → lineRefusal l ≡ 0 → Form.Body (bodyOf l) × (l ≡ asLine (bodyOf l))
@@ -180,6 +189,30 @@ read-sound = Order.sound
 
 pub read-unknown : (l : List ℕ) → lineRefusal l ≡ 0 → addressOf (bodyOf l) ≡ Unknown → readLine l ≡ aloneOf (Refused 3 0)
 read-unknown = Order.unknown
+
+-- The place of a 5: it is one of the fields; whatever stands in the fields after it, they are refused with 5 at the same field ..
+pub five-within : (a : Address) (n : ℕ) (field : ℕ → List ℕ) (w : ℕ) → Fives.toldOf a n field ≡ refusal 5 w → (0 < w) × (w ≤ n)
+five-within a n field w e = Fives.five a n field w e .within
+
+pub five-stays : (a : Address) (n : ℕ) (field other : ℕ → List ℕ) (w : ℕ) → Fives.toldOf a n field ≡ refusal 5 w → Agree field other suc w
+    → Fives.toldOf a n other ≡ refusal 5 w
+five-stays a n field other w e = Fives.five a n field w e .stays other
+
+-- .. of two lines too, with the same address, as many fields, and the same up to the one that is named ..
+pub five-line : (l m : List ℕ) (w : ℕ) → lineRefusal l ≡ 0 → lineRefusal m ≡ 0 → addressOf (bodyOf m) ≡ addressOf (bodyOf l)
+    → length (fieldsOf (bodyOf m)) ≡ length (fieldsOf (bodyOf l)) → refusalOf (readLine l .sentence) ≡ refusal 5 w
+    → Agree (theFields (bodyOf l)) (theFields (bodyOf m)) suc w → refusalOf (readLine m .sentence) ≡ refusal 5 w
+five-line = Lines.five-line
+
+-- .. and the fields before it can be completed to fields that are read, the length of the line aside ..
+pub five-completed : (a : Address) (n : ℕ) (field : ℕ → List ℕ) (w : ℕ) → Fives.toldOf a n field ≡ refusal 5 w → Fives.usual a field
+    → Fives.Accepted a n field w
+five-completed a n field w e = Fives.five a n field w e .completed
+
+-- .. but for a ZDA whose day no year has in that month: 31 and 02 are refused at the year, whatever it is.
+pub five-no-such-day : (y : List ℕ) → dateThree (ascii "31") (ascii "02") y .wrong ≡ 3
+unfolding printFixed
+five-no-such-day y = no-such-day y
 
 -- A writer that refuses leaves every byte of the output, and one that writes leaves the bytes past what it wrote.
 pub refusal-leaves : {fault : Written} {body out : List ℕ} {answer : Written} {left : List ℕ} → Writes fault body out answer left → (answer .no ≡ 0 → ⊥) → left ≡ out

@@ -1,4 +1,3 @@
 pub mod Keep
 pub mod Wrong
 pub mod Blank
-pub mod Answers

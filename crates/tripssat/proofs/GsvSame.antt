@@ -5,7 +5,7 @@ use Prim.Native.Nat.{ℕ, zero, suc, _+_, _-_, _≤_, _<_}
 use lib.Dec.{eqb, ltb, lit<, lit≤}
 use lib.ListN.{length, getD}
 use borrow.Author.Tests.{eqb-true, ltb-false, ne-eqb}
-use mathlib.Core.Bool.{Bool, true, false, cond}
+use mathlib.Core.Bool.{Bool, true, false}
 use mathlib.Core.List.{List, [], _∷_, _++_}
 use mathlib.Core.Path.{_∙_, _≡_, ap, refl, subst, sym}
 use native.Mathlib.Omega.{arith}
@@ -32,6 +32,7 @@ use Rattle.row.specs.Kind.{answerBy}
 use Rattle.row.specs.Row.{one}
 use Rattle.satellites.specs.View.{entriesOf, entryIf, gsvBeside, gsvMade, gsvOf, gsvRow, gsvWith}
 use Rattle.satellites.specs.View as View
+use Rattle.satellites.proofs.Places.{entries-are}
 use Rattle.sealing.specs.Body.{talkerText}
 use Rattle.trips.proofs.SameTexts.{address-same}
 use Rattle.writesat.specs.Gsv.{gsvBody, gsvFields}
@@ -103,23 +104,6 @@ module _ (field : ℕ → List ℕ) (count : ℕ) (t : Talker) where
       go true b p q i = no-gsv 4 0 t i
       go false false p q i = no-gsv 5 first t i
       go false true p q i = (ltb-false 4 count p, eqb-true first 0 q, refl)
-
--- A line of at most four entries has as many fields as their row.
-abbrev of : Bool → Bool → Bool → Bool → Bool → ℕ
-of a b c d e = cond a 0 (cond b 1 (cond c 2 (cond d 3 (cond e 4 5))))
-
-entries-are : (n : ℕ) → entriesOf n ≤ 4 → n ≡ gsvRow (entriesOf n) .width
-unfolding entriesOf gsvRow
-entries-are n = go (eqb n 3) (eqb n 7) (eqb n 11) (eqb n 15) (eqb n 19) refl refl refl refl refl
-  where
-    go : (a b c d e : Bool) → eqb n 3 ≡ a → eqb n 7 ≡ b → eqb n 11 ≡ c → eqb n 15 ≡ d → eqb n 19 ≡ e → of a b c d e ≤ 4
-        → n ≡ gsvRow (of a b c d e) .width
-    go true b c d e p q r s u h = eqb-true n 3 p
-    go false true c d e p q r s u h = eqb-true n 7 q
-    go false false true d e p q r s u h = eqb-true n 11 r
-    go false false false true e p q r s u h = eqb-true n 15 s
-    go false false false false true p q r s u h = eqb-true n 19 u
-    go false false false false false p q r s u h = let z : ⊥ = omega arith in absurd z
 
 module _ (l : List ℕ) (t : Talker) (e : readLine l .sentence ≡ S.Gsv t) where
   abbrev entries : ℕ
