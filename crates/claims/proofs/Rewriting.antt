@@ -133,7 +133,7 @@ bytes-total field n [] b = refl
 bytes-total field n (f ∷ fs) b =
     let first : field (n + 1) ≡ f = b 0 (omega arith) in
     let next : Begins field (n + 1) (length fs) fs = λ k h. let i : n + 1 + suc k ≡ n + suc (suc k) = omega arith in
-        ap field i ∙ b (suc k) (omega (arith, h)) in
+    ap field i ∙ b (suc k) (omega (arith, h)) in
     omega (arith, ap length first, bytes-total field (n + 1) fs next)
 
 fields-long : (body : List ℕ) (t : Talker) (k : Kind) → addressOf body ≡ Standard t k → (n : ℕ) → length (fieldsOf body) - 1 ≡ n

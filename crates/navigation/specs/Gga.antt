@@ -29,9 +29,17 @@ ggaParts = one time ▷ one place ▷ one (exact 1 0 8) ▷ one (fixed 2 0 99) �
 unfoldable pub ggaRow : Row Readings Gga
 ggaRow =
     made
-    (λ v. record { time = v .0; place = v .1 .0; quality = v .1 .1 .0; satellites = v .1 .1 .1 .0; hdop = v .1 .1 .1 .1 .0;
-        altitude = v .1 .1 .1 .1 .1 .0; geoid = v .1 .1 .1 .1 .1 .1 .0; age = v .1 .1 .1 .1 .1 .1 .1 .0;
-        station = v .1 .1 .1 .1 .1 .1 .1 .1 })
+    (λ v. record {
+      time = v .0;
+      place = v .1 .0;
+      quality = v .1 .1 .0;
+      satellites = v .1 .1 .1 .0;
+      hdop = v .1 .1 .1 .1 .0;
+      altitude = v .1 .1 .1 .1 .1 .0;
+      geoid = v .1 .1 .1 .1 .1 .1 .0;
+      age = v .1 .1 .1 .1 .1 .1 .1 .0;
+      station = v .1 .1 .1 .1 .1 .1 .1 .1;
+    })
     (λ r. (r .time, (r .place, (r .quality, (r .satellites, (r .hdop, (r .altitude, (r .geoid, (r .age, r .station)))))))))
     ggaParts
 

@@ -31,8 +31,16 @@ rmcParts = one time ▷ one status ▷ one place ▷ one knots ▷ one course �
 unfoldable pub rmcRow : Row Readings Rmc
 rmcRow =
     made
-    (λ v. record { time = v .0; status = v .1 .0; place = v .1 .1 .0; speed = v .1 .1 .1 .0; course = v .1 .1 .1 .1 .0;
-        date = v .1 .1 .1 .1 .1 .0; variation = v .1 .1 .1 .1 .1 .1 .0; mode = v .1 .1 .1 .1 .1 .1 .1 })
+    (λ v. record {
+      time = v .0;
+      status = v .1 .0;
+      place = v .1 .1 .0;
+      speed = v .1 .1 .1 .0;
+      course = v .1 .1 .1 .1 .0;
+      date = v .1 .1 .1 .1 .1 .0;
+      variation = v .1 .1 .1 .1 .1 .1 .0;
+      mode = v .1 .1 .1 .1 .1 .1 .1;
+    })
     (λ r. (r .time, (r .status, (r .place, (r .speed, (r .course, (r .date, (r .variation, r .mode))))))))
     rmcParts
 

@@ -1,6 +1,6 @@
 -- The place of a 5, of all kinds: by the address, the row that it leads to, and what is proved of that row.
 use Prim.Native.Nat.{ℕ, suc, _≤_, _<_}
-use mathlib.Core.Path.{_≡_, refl, sym, ap, _∙_, subst}
+use mathlib.Core.Path.{_≡_, refl, sym, ap, _∙_}
 use mathlib.Core.List.{List}
 use mathlib.Core.Bool.{Bool, true, false}
 use native.Mathlib.Omega.{arith}
@@ -30,7 +30,6 @@ use Rattle.forms.specs.Got.{pick}
 use Rattle.reading.specs.declared.Refusal.{Refusal}
 use Rattle.reading.specs.Lines.{addressed, refusal, refusalOf}
 use Rattle.records.specs.declared.Reading.{Reading}
-use Rattle.records.specs.declared.Sentence.{Sentence}
 use Rattle.records.specs.declared.Sentence.the-variants as S
 use Rattle.row.specs.Kind.{answerBy, readBy}
 use Rattle.row.specs.Row.{Row}
@@ -38,7 +37,7 @@ use Rattle.satellites.specs.Active.{gsaBeside, gsaMade, gsaRow}
 use Rattle.satellites.specs.View.{entriesOf, gsvBeside, gsvOf, gsvRow, gsvWith, refused}
 use Rattle.satellites.proofs.Places.{entries-are}
 use Rattle.trips.proofs.Clean.{Clean}
-use Rattle.rowlaws.proofs.PlaceKind.{Placed, Readable}
+use Rattle.rowlaws.proofs.PlaceKind.{Placed}
 use Rattle.rowlaws.proofs.PlaceLaws.{Agree, namedAt}
 use Rattle.placeoffive.proofs.Navigation as N
 use Rattle.placeoffive.proofs.Commands as C
@@ -102,7 +101,7 @@ module _ {A G R : Type 0} (refuse : ℕ → ℕ → A) (row : Row G R) (make : R
         let x = named-by n field w (sym (leads field) ∙ e) in
         let some : 0 < namedAt row 0 field = omega (arith, x .some, x .is) in
         let whole : (other : ℕ → List ℕ) → toldOf a n other ≡ told (readBy refuse row make (row .width) other) = λ other.
-            leads other ∙ ap (λ (m : ℕ). told (readBy refuse row make m other)) (x .many) in
+        leads other ∙ ap (λ (m : ℕ). told (readBy refuse row make m other)) (x .many) in
         record {
           within = (x .some, omega (arith, p .within field, x .is, x .many));
           stays = λ other s.

@@ -1,7 +1,7 @@
 -- The entry of a satellite, four fields read together: it is like the row of its four forms, and so has their laws.
 use Prim.Native.Nat.{ℕ, _+_, _≤_}
 use mathlib.Core.Path.{_≡_, refl, sym, ap, _∙_}
-use mathlib.Core.List.{List, [], _∷_}
+use mathlib.Core.List.{List}
 use mathlib.Core.Bool.{Bool, true, false, cond, not, _&&_}
 use native.Mathlib.Omega.{arith}
 use lib.Dec.{eqb, leb, lit<, lit≤}
@@ -19,7 +19,7 @@ use Rattle.records.specs.declared.values.Maybe.{Maybe}
 use Rattle.satellites.specs.declared.gsv.GotEntry.{GotEntry}
 use Rattle.satellites.specs.View.{azimuth, elevation, entry, entryAt, entryFrom, entryIf, firstOf, noEntry, satelliteNumber, signal}
 use Rattle.trips.proofs.Values.{zero-one}
-use Rattle.row.specs.Row.{Form, Row, one, _▷_, made, onlyIf}
+use Rattle.row.specs.Row.{Row, one, _▷_, made}
 use Rattle.rowlaws.proofs.Laws.{_⊵_, LawfulForm, lawful-onlyIf, Tight, tight-made, tight-one}
 use Rattle.rowlaws.proofs.FormLaws.{lawful-exact, lawful-fixed, short-exact, short-fixed}
 use Rattle.rowlaws.proofs.LikeRow.{lawful-like, Like, prefix-like, same-like}

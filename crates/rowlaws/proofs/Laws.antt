@@ -182,11 +182,6 @@ module _ {G X : Type 0} (none : G) (filled : X → ℕ) (f : Form G X) (good : f
         long = λ v e. omega arith;
       }
 
-pub short-onlyIf : {G X : Type 0} (none : G) (filled : X → ℕ) (f : Form G X) → ShortForm f → (on : Bool)
-    → ShortForm (onlyIf on none filled f)
-short-onlyIf none filled f s true = s
-short-onlyIf none filled f s false = record { short = λ field e. omega arith }
-
 -- One row, then another that depends on it.
 module _ {K G X H Y : Type 0} (w m : ℕ) (found : G → K) (held : X → K) (a : Row G X) (b : K → Row H Y)
     (wide : (k : K) → b k .width ≡ w) (large : (k : K) → b k .most ≤ m) (same : (g : G) → held (a .value g) ≡ found g)

@@ -10,20 +10,17 @@ use Rattle.row.specs.Row.{Row}
 use Rattle.row.specs.Kind.{answerBy, readBy}
 use Rattle.rowlaws.proofs.PlaceLaws.{Agree, namedAt, PrefixBut}
 
--- Fields that are the same before the one that is named, clean from it on, and read: by what they read as, and by how many they are.
+-- Fields that are the same before the one that is named, clean from it on, and read.
 pub record Readable {A G R : Type 0} (refuse : ℕ → ℕ → A) (row : Row G R) (make : R → A) (field : ℕ → List ℕ) : Type 0 where
   pub other : ℕ → List ℕ
   pub before : (j : ℕ) → suc j < namedAt row 0 field → other (suc j) ≡ field (suc j)
   pub clean : (j : ℕ) → j < row .width → namedAt row 0 field ≤ suc j → Clean (other (suc j))
-  pub answer : answerBy refuse row make (row .got other 0) ≡ make (row .value (row .got other 0))
   pub read : readBy refuse row make (row .width) other ≡ make (row .value (row .got other 0))
 
 -- The place of a 5 in a kind: it is one of its fields; whatever stands after it, the answer is the same; and what stands before it can be
 -- completed, where that is usual.
 pub record Placed {A G R : Type 0} (refuse : ℕ → ℕ → A) (row : Row G R) (make : R → A) (usual : (ℕ → List ℕ) → Type 0) : Type 0 where
   pub within : (field : ℕ → List ℕ) → namedAt row 0 field ≤ row .width
-  pub answer-stays : (field other : ℕ → List ℕ) → 0 < namedAt row 0 field → Agree field other suc (namedAt row 0 field)
-      → answerBy refuse row make (row .got other 0) ≡ refuse 5 (namedAt row 0 field)
   pub stays : (field other : ℕ → List ℕ) → 0 < namedAt row 0 field → Agree field other suc (namedAt row 0 field)
       → readBy refuse row make (row .width) other ≡ refuse 5 (namedAt row 0 field)
   pub completed : (field : ℕ → List ℕ) → 0 < namedAt row 0 field → usual field → Readable refuse row make field
@@ -46,7 +43,6 @@ module _ {A G R : Type 0} (refuse : ℕ → ℕ → A) (row : Row G R) (make : R
   placed p =
       record {
         within = λ field. p .within field 0;
-        answer-stays = stays;
         stays = λ field other h s. whole-read other ∙ stays field other h s;
         completed = λ field h u.
             let c = p .completed field 0 h u in
@@ -55,7 +51,6 @@ module _ {A G R : Type 0} (refuse : ℕ → ℕ → A) (row : Row G R) (make : R
               other = c .other;
               before = λ j i. sym (ap (c .other) (zero-add (suc j))) ∙ c .before j i ∙ ap field (zero-add (suc j));
               clean = λ j i k. subst Clean (ap (c .other) (zero-add (suc j))) (c .clean j i k);
-              answer = good;
               read = whole-read (c .other) ∙ good;
             };
       }

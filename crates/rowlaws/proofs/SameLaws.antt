@@ -1,14 +1,13 @@
 -- One more law of a row: what is written of what was read is the same bytes. It stands apart from the others, since not every form keeps it.
-use Prim.Native.Nat.{ℕ, zero, suc, _+_, _-_, _≤_, _<_}
+use Prim.Native.Nat.{ℕ, zero, suc, _+_, _-_, _<_}
 use mathlib.Core.Path.{_≡_, refl, sym, ap, _∙_, subst}
-use mathlib.Core.List.{List, [], _∷_, _++_}
+use mathlib.Core.List.{List, [], _∷_}
 use mathlib.Core.Bool.{Bool, true, false}
 use native.Mathlib.Omega.{arith}
 use native.Mathlib.Nat.{zero-add}
 use lib.Dec.{ltb}
 use lib.ListN.{length, getD, List·getD-append}
 use borrow.Author.Tests.{ltb-true, ltb-false}
-use Rattle.fields.specs.Fields.{joinFields}
 use Rattle.trips.proofs.SameTexts.{exact-same, fixed-same}
 use Rattle.row.specs.Row.{Form, Row, one, made, onlyIf, _▷_}
 use Rattle.row.specs.Forms.{exact, fixed}
@@ -43,16 +42,17 @@ same-onlyIf none filled f s false = record { same = λ field e k h. let z : ⊥ 
 
 -- A row of one form.
 pub keeps-one : {G X : Type 0} {f : Form G X} → LawfulForm f → SameForm f → Keeps (one f)
-keeps-one {f = f} l s =
-    (lawful-one l,
-    record {
-      same = λ field n rest e k h.
-          let own : ℕ → List ℕ = λ j. field (n + j) in
-          let i : n + suc k ≡ n + (0 + suc k) = omega arith in
-          let v = f .value (f .got own) in
-          let within : k < length (f .text v) = omega (arith, l .count v, h) in
-          ap field i ∙ s .same own (near-zero 0 _ 0 e .0) k h ∙ sym (List·getD-append (f .text v) rest [] k within);
-    })
+keeps-one {f = f} l s = (
+  lawful-one l,
+  record {
+    same = λ field n rest e k h.
+        let own : ℕ → List ℕ = λ j. field (n + j) in
+        let i : n + suc k ≡ n + (0 + suc k) = omega arith in
+        let v = f .value (f .got own) in
+        let within : k < length (f .text v) = omega (arith, l .count v, h) in
+        ap field i ∙ s .same own (near-zero 0 _ 0 e .0) k h ∙ sym (List·getD-append (f .text v) rest [] k within);
+  },
+)
 
 -- One row, then another.
 module _ {G X H Y : Type 0} {a : Row G X} {b : Row H Y} (p : Keeps a) (q : Keeps b) where
@@ -71,18 +71,19 @@ module _ {G X H Y : Type 0} {a : Row G X} {b : Row H Y} (p : Keeps a) (q : Keeps
 
   infixr 30 _⊜_
   pub _⊜_ : Keeps (a ▷ b)
-  _⊜_ =
-      (p .0 ⊳ q .0,
-      record {
-        same = λ field n rest e k h.
-            let g = a .got field n in
-            let f = b .got field (n + a .width) in
-            let x = p .0 .wrongs g .none 0 (b .wrong f (0 + a .width) 0) e in
-            let y = q .0 .wrongs f .none (0 + a .width) 0 (x .1) in
-            let after = b .text (b .value f) rest in
-            joined field n k (a .value g) after (p .1 .same field n after (x .0)) (q .1 .same field (n + a .width) rest (y .0)) h
-            (ltb k (a .width)) refl;
-      })
+  _⊜_ = (
+    p .0 ⊳ q .0,
+    record {
+      same = λ field n rest e k h.
+          let g = a .got field n in
+          let f = b .got field (n + a .width) in
+          let x = p .0 .wrongs g .none 0 (b .wrong f (0 + a .width) 0) e in
+          let y = q .0 .wrongs f .none (0 + a .width) 0 (x .1) in
+          let after = b .text (b .value f) rest in
+          joined field n k (a .value g) after (p .1 .same field n after (x .0)) (q .1 .same field (n + a .width) rest (y .0)) h
+          (ltb k (a .width)) refl;
+    },
+  )
 
 -- The values of a row as a record.
 pub same-made : {G X R : Type 0} (to : X → R) (from : R → X) (a : Row G X) (there : (v : X) → from (to v) ≡ v) → Same a → Same

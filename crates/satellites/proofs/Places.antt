@@ -1,5 +1,5 @@
 -- The row of a GSV, count by count: the places of the fields after an entry that is not used differ, and none of them is wrong.
-use Prim.Native.Nat.{ℕ, zero, suc, _+_, _≤_, _<_}
+use Prim.Native.Nat.{ℕ, zero, suc, _+_, _≤_}
 use mathlib.Core.Path.{_≡_, refl, sym, ap, _∙_}
 use mathlib.Core.Bool.{Bool, true, false, cond}
 use mathlib.Core.List.{List}
@@ -15,14 +15,25 @@ use Rattle.satellites.specs.View.{entriesOf, entryForm, gsvFrom, gsvRow,
 
 abbrev pub fourPlaces : Talker → ℕ → (ℕ → List ℕ) → Reading
 fourPlaces t count field =
-    gsvFrom t count
-    (lineNumber .got field,
-    (lineNumber .got (λ k. field (1 + k)),
-    (satelliteTotal .got (λ k. field (2 + k)),
-    (entryForm (ltb 0 count) (field 4) (field 5) (field 6) (field 7),
-    (entryForm (ltb 1 count) (field 8) (field 9) (field 10) (field 11),
-    (entryForm (ltb 2 count) (field 12) (field 13) (field 14) (field 15),
-    entryForm (ltb 3 count) (field 16) (field 17) (field 18) (field 19)))))))
+    gsvFrom t count (
+      lineNumber .got field,
+      (
+        lineNumber .got (λ k. field (1 + k)),
+        (
+          satelliteTotal .got (λ k. field (2 + k)),
+          (
+            entryForm (ltb 0 count) (field 4) (field 5) (field 6) (field 7),
+            (
+              entryForm (ltb 1 count) (field 8) (field 9) (field 10) (field 11),
+              (
+                entryForm (ltb 2 count) (field 12) (field 13) (field 14) (field 15),
+                entryForm (ltb 3 count) (field 16) (field 17) (field 18) (field 19),
+              ),
+            ),
+          ),
+        ),
+      ),
+    )
 
 pub with-four : (t : Talker) (count : ℕ) (field : ℕ → List ℕ) → pick (ltb 4 count) (refused 4 0) (fourPlaces t count field) ≡ gsvWith t count
     field

@@ -57,10 +57,13 @@ abbrev pub satelliteIn : List Maybe → ℕ → Maybe
 satelliteIn l k = getD l k noMaybe
 
 abbrev pub twelveIn : List Maybe → Twelves Maybe
-twelveIn l =
-    ((satelliteIn l 0, (satelliteIn l 1, (satelliteIn l 2, satelliteIn l 3))),
-    ((satelliteIn l 4, (satelliteIn l 5, (satelliteIn l 6, satelliteIn l 7))),
-    (satelliteIn l 8, (satelliteIn l 9, (satelliteIn l 10, satelliteIn l 11)))))
+twelveIn l = (
+  (satelliteIn l 0, (satelliteIn l 1, (satelliteIn l 2, satelliteIn l 3))),
+  (
+    (satelliteIn l 4, (satelliteIn l 5, (satelliteIn l 6, satelliteIn l 7))),
+    (satelliteIn l 8, (satelliteIn l 9, (satelliteIn l 10, satelliteIn l 11))),
+  ),
+)
 
 -- The record of the values, and back.
 abbrev pub gsaMade : Values → Gsa

@@ -10,9 +10,9 @@ use Rattle.forms.specs.declared.got.Got.{Got}
 use Rattle.forms.specs.declared.got.GotInt.{GotInt}
 use Rattle.records.specs.declared.values.Maybe.{Maybe}
 use Rattle.records.specs.declared.values.Zone.{Zone}
-use Rattle.records.specs.Keep.{keptIf, zonedIf, neededWrong, neededInt}
-use Rattle.ranges.specs.Ranges.{outside, rangeWrong, portWrong, alikeWrong, signedWrong}
-use Rattle.trips.proofs.Values.{theGot, theGotInt, inside}
+use Rattle.records.specs.Keep.{zonedIf, neededWrong, neededInt}
+use Rattle.ranges.specs.Ranges.{rangeWrong, portWrong, alikeWrong, signedWrong}
+use Rattle.trips.proofs.Values.{theGotInt, inside}
 use Rattle.trips.proofs.Places.{signed-none}
 use Rattle.trips.proofs.Ranged.{zero-outside}
 
@@ -34,20 +34,6 @@ range-held lo hi m e q = let i = inside 0 0 (m .value) (rw q at e) in omega (ari
 pub port-held : (m : Maybe) → portWrong (m .there) (m .value) ≡ 0 → Held m
 unfolding portWrong
 port-held m e q = let i = inside 0 0 (m .value) (rw q at e) in omega (arith, i .1)
-
-pub needed-alike : (needed : Bool) (m : Maybe) → needed ≡ m .there → neededWrong needed (theGot (m .there) (m .value)) ≡ 0
-needed-alike needed m e = rw e (go (m .there))
-  where
-    go : (t : Bool) → neededWrong t (theGot t (m .value)) ≡ 0
-    go true = refl
-    go false = refl
-
-pub kept-alike : (needed : Bool) (m : Maybe) → needed ≡ m .there → Held m → keptIf needed (theGot (m .there) (m .value)) ≡ m
-kept-alike needed m e h = rw e (go (m .there) refl)
-  where
-    go : (t : Bool) → m .there ≡ t → keptIf (m .there) (theGot (m .there) (m .value)) ≡ m
-    go true q = rw q
-    go false q = rw q (ap (λ (v : ℕ). record { there = false; value = v }) (sym (h q)))
 
 -- The same of a zone.
 pub needed-zone : (needed : Bool) (z : Zone) → needed ≡ z .there → neededInt needed (theGotInt (z .there) (z .minutes)) ≡ 0
@@ -85,13 +71,6 @@ needed-parts needed g e = needed-both needed (g .wrong) (g .there) e
 pub needed-int-parts : (needed : Bool) (g : GotInt) → neededInt needed g ≡ 0 → (g .wrong ≡ 0) × (needed ≡ true → g .there ≡ true)
 needed-int-parts needed g e = needed-both needed (g .wrong) (g .there) e
 
-module _ (wrong : Bool → ℕ → ℕ) (blank : wrong false 0 ≡ 0) where
-  pub alike-kept : (needed : Bool) (g : Got) → wrong (g .there) (g .value) ≡ 0 → (needed ≡ true → g .there ≡ true)
-      → alikeWrong needed (keptIf needed g .there) (wrong (keptIf needed g .there) (keptIf needed g .value)) ≡ 0
-  unfolding alikeWrong
-  alike-kept true g e h = rw (h refl) (rw (h refl) at e)
-  alike-kept false g e h = blank
-
 pub alike-zone : (needed : Bool) (g : GotInt) → signedWrong 839 (g .there) (g .value) ≡ 0 → (needed ≡ true → g .there ≡ true)
     → alikeWrong needed (zonedIf needed g .there) (signedWrong 839 (zonedIf needed g .there) (zonedIf needed g .minutes)) ≡ 0
 unfolding alikeWrong signedWrong rangeWrong
@@ -99,13 +78,6 @@ alike-zone true g e h = rw (h refl) (rw (h refl) at e)
 alike-zone false g e h = zero-outside
 
 -- A value that is there, by itself.
-pub told-range : (lo hi : ℕ) (g : Got) → rangeWrong lo hi (g .there) (g .value) ≡ 0 → g .there ≡ true → outside lo hi (g .value) ≡ 0
-unfolding rangeWrong
-told-range lo hi g e h = rw h at e
-
-pub told-port : (g : Got) → portWrong (g .there) (g .value) ≡ 0 → g .there ≡ true → portWrong true (g .value) ≡ 0
-told-port g e h = rw h at e
-
 pub told-zone : (g : GotInt) → signedWrong 839 (g .there) (g .value) ≡ 0 → g .there ≡ true → signedWrong 839 true (g .value) ≡ 0
 told-zone g e h = rw h at e
 

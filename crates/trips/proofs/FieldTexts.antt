@@ -25,7 +25,7 @@ use Rattle.records.specs.declared.values.Number.{Number}
 use Rattle.records.specs.declared.values.Place.{Place}
 use Rattle.records.specs.declared.values.Signed.{Signed}
 use Rattle.records.specs.declared.values.Zone.{Zone}
-use Rattle.ranges.specs.Ranges.{outside, rangeWrong}
+use Rattle.ranges.specs.Ranges.{rangeWrong}
 use Rattle.texts.specs.Texts.{ifThere, maybeText, numberField, knotsField, kmhField, heightText, heightField, unitField, sideText, latField, nsField, lonField, ewField, variationField, variationSide, sixField, dayField, monthField, yearField, hoursField, minutesField}
 use Rattle.trips.proofs.Clean.{Clean, clean-fixed, clean-hex}
 use Rattle.trips.proofs.CleanTexts.{clean-if, clean-clock, clean-plain, clean-number, clean-height, clean-angle, clean-side, clean-six, clean-hours, clean-zone, length-if, length-clock, length-angle, length-hours, length-zone, length-side, length-plain, length-number, length-below}
@@ -168,6 +168,3 @@ long-course there v e = ranged 0 359999 there v 7 numberText e (λ h. length-bel
 
 pub long-rate : (there : Bool) (v : ℕ) → rangeWrong 1200 115200 there v ≡ 0 → length (ifThere there (plainText v)) ≤ 6
 long-rate there v e = ranged 1200 115200 there v 6 plainText e (λ h. length-plain v (omega arith))
-
-pub long-plain : (lo hi v : ℕ) → hi < 1000000 → outside lo hi v ≡ 0 → length (plainText v) ≤ 6
-long-plain lo hi v k e = length-plain v (omega (arith, inside lo hi v e .1))

@@ -2,7 +2,6 @@
 use mathlib.Core.Path.{_≡_, refl}
 use mathlib.Core.Bool.{Bool}
 use lib.Dec.{lit<, lit≤}
-use Rattle.digits.specs.Ascii.{ascii}
 use Rattle.address.specs.declared.Address.the-variants as A
 use Rattle.address.specs.declared.Pir.the-variants as P
 use Rattle.forms.specs.Limits.{glonassMost, gpsMost}

@@ -3,7 +3,6 @@ use Prim.Native.Nat.{_≤_}
 use mathlib.Core.Path.{_≡_, refl}
 use lib.Dec.{lit<, lit≤}
 use lib.ListN.{length}
-use Rattle.digits.specs.Ascii.{ascii}
 use Rattle.address.specs.declared.Address.the-variants as A
 use Rattle.address.specs.declared.Kind.the-variants as K
 use Rattle.address.specs.declared.Talker.{Talker}

@@ -15,7 +15,7 @@ use Rattle.records.specs.declared.Gsa.{Gsa}
 use Rattle.records.specs.declared.Reading.{Reading}
 use Rattle.records.specs.declared.values.Maybe.{Maybe}
 use Rattle.row.specs.Row.{one}
-use Rattle.satellites.specs.Active.{fourRow, gsaBeside, gsaMade, gsaOf, gsaRow, gsaValues, refused, satellite, twelveRow}
+use Rattle.satellites.specs.Active.{fourRow, gsaBeside, gsaMade, gsaOf, gsaRow, gsaValues, refused, satellite}
 use Rattle.writesat.specs.Gsa.{gsaBody, gsaFields, gsaWrong}
 use Rattle.trips.proofs.CleanTexts.{total}
 use Rattle.trips.proofs.FieldTexts.{clean-selection}
@@ -52,7 +52,7 @@ pub read-write : (t : Talker) (r : Gsa) → length (r .satellites) ≡ 12 → gs
 unfolding gsaWrong gsaFields
 read-write t r twelve good fits =
     let again : List Maybe → Reading = λ l.
-        gsaBeside t (record { selection = r .selection; fix = r .fix; satellites = l; pdop = r .pdop; hdop = r .hdop; vdop = r .vdop }) in
+    gsaBeside t (record { selection = r .selection; fix = r .fix; satellites = l; pdop = r .pdop; hdop = r .hdop; vdop = r .vdop }) in
     gsa .read-write t (gsaValues r) good fits ∙ ap again (all-twelve noMaybe (r .satellites) twelve)
 
 -- Whatever holds of refusals and of records in range, no longer than the fields were, holds of what is read.

@@ -1,11 +1,11 @@
 -- GSV there and back. An entry is a form, lawful as the others are, and so is the row of so many entries; what the writer looks at, entry by
 -- entry, is what the row does.
 use Prim.Native.Nat.{ℕ, zero, suc, _+_, _≤_, _<_}
-use mathlib.Core.Bool.{Bool, true, false, cond, not, _&&_, _||_}
+use mathlib.Core.Bool.{Bool, true, false, not, _||_}
 use mathlib.Core.List.{List, [], _∷_, _++_}
-use mathlib.Core.Path.{_∙_, _≡_, ap, refl, subst, sym}
+use mathlib.Core.Path.{_∙_, _≡_, ap, refl}
 use native.Mathlib.Omega.{arith}
-use lib.Dec.{eqb, ltb, lit<, lit≤}
+use lib.Dec.{ltb, lit<, lit≤}
 use lib.ListN.{length}
 use borrow.Author.Tests.{eq-eqb, ltb-false}
 use Rattle.address.specs.declared.Address.{Address}
@@ -176,10 +176,10 @@ read-write t r four good =
     let a = talkerText t ++ ascii "GSV" in
     let three : Clean (ascii "GSV") = ((lit< tt, lit< tt), ((lit< tt, lit< tt), ((lit< tt, lit< tt), tt))) in
     let to-row : (field : ℕ → List ℕ) → addressed (knownOf a) (gsvRow (r .count) .width) field
-        ≡ readBy refused (gsvRow (r .count)) (gsvBeside t (r .count)) (gsvRow (r .count) .width) field = λ field.
-        ap (λ (x : Address). addressed x (gsvRow (r .count) .width) field) (known-gsv t) ∙ leads (r .count) (good .few) t field in
+    ≡ readBy refused (gsvRow (r .count)) (gsvBeside t (r .count)) (gsvRow (r .count) .width) field = λ field.
+    ap (λ (x : Address). addressed x (gsvRow (r .count) .width) field) (known-gsv t) ∙ leads (r .count) (good .few) t field in
     let again : List Entry → Reading = λ es.
-        theGsv t (record { lines = r .lines; line = r .line; satellites = r .satellites; count = r .count; entries = es }) in
+    theGsv t (record { lines = r .lines; line = r .line; satellites = r .satellites; count = r .count; entries = es }) in
     line-back refused (gsvRow (r .count)) (lawful-gsv (r .count)) (gsvBeside t (r .count)) (λ x. x) a (address-five t (ascii "GSV") refl)
     (address-clean t (ascii "GSV") refl three) (some-width (r .count)) to-row (gsvValues r) (good-row r good) (fits t r)
     ∙ ap again (all-four blankEntry (r .entries) four)
@@ -192,7 +192,7 @@ module _ (t : Talker) (field : ℕ → List ℕ) (P : Reading → Type 0) (none 
   by-row count few =
       let row = gsvRow count in
       let made = read-in-range refused row (lawful-gsv count) (gsvBeside t count) (row .width) field P none
-          (λ v n e. written (gsvMade count v) refl (row-good (gsvMade count v) few e)) in
+      (λ v n e. written (gsvMade count v) refl (row-good (gsvMade count v) few e)) in
       rw (eq-eqb (row .width) (row .width) refl) at made
 
   with-read : (count : ℕ) → P (gsvWith t count field)

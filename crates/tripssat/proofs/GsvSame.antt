@@ -1,10 +1,10 @@
 -- A line that reads as a GSV sentence passed the line rule and has the address of GSV, since no other gives such a sentence. So what was
 -- read of it has no fault. And it is written as the same bytes: the row of its entries keeps them, and the address is the
 -- talker's bytes and GSV.
-use Prim.Native.Nat.{ℕ, zero, suc, _+_, _-_, _≤_, _<_}
+use Prim.Native.Nat.{ℕ, _+_, _-_, _≤_, _<_}
 use lib.Dec.{eqb, ltb, lit<, lit≤}
 use lib.ListN.{length, getD}
-use borrow.Author.Tests.{eqb-true, ltb-false, ne-eqb}
+use borrow.Author.Tests.{eqb-true, ltb-false}
 use mathlib.Core.Bool.{Bool, true, false}
 use mathlib.Core.List.{List, [], _∷_, _++_}
 use mathlib.Core.Path.{_∙_, _≡_, ap, refl, subst, sym}
@@ -81,7 +81,7 @@ keeps-gsv count =
     let digit = keeps-one (lawful-exact 1 1 9 (lit≤ tt) (lit≤ tt) (lit< tt)) (same-exact 1 1 9) in
     let all = keeps-one (lawful-exact 2 0 99 (lit≤ tt) (lit≤ tt) (lit< tt)) (same-exact 2 0 99) in
     let entry-of : (k : ℕ) → Keeps (one (entryIf (ltb k count))) = λ k.
-        keeps-one (lawful-entryIf (ltb k count)) (same-entryIf (ltb k count)) in
+    keeps-one (lawful-entryIf (ltb k count)) (same-entryIf (ltb k count)) in
     digit ⊜ digit ⊜ all ⊜ entry-of 0 ⊜ entry-of 1 ⊜ entry-of 2 ⊜ entry-of 3
 
 -- A GSV sentence is given only with at most four entries and no wrong field.
@@ -123,8 +123,8 @@ module _ (l : List ℕ) (t : Talker) (e : readLine l .sentence ≡ S.Gsv t) wher
       go : (a : List ℕ) (fs : List (List ℕ)) → fieldsOf (bodyOf l) ≡ a ∷ fs → gsvBody t (readLine l .gsv) ≡ bodyOf l
       go a fs q =
           let many : length fs ≡ gsvRow entries .width = omega (arith, entries-are (number l) (read-told .0), ap length q) in
-          let wrong : gsvRow entries .wrong (gsvRow entries .got (λ k. getD (a ∷ fs) k []) 0) 0 0 ≡ 0 = 
-              subst (λ (x : List (List ℕ)). gsvRow entries .wrong (gsvRow entries .got (λ k. getD x k []) 0) 0 0 ≡ 0) q (read-told .1) in
+          let wrong : gsvRow entries .wrong (gsvRow entries .got (λ k. getD (a ∷ fs) k []) 0) 0 0 ≡ 0 =
+          subst (λ (x : List (List ℕ)). gsvRow entries .wrong (gsvRow entries .got (λ k. getD x k []) 0) 0 0 ≡ 0) q (read-told .1) in
           let address : a ≡ talkerText t ++ ascii "GSV" = rw q at (address-same (bodyOf l) t K.Gsv (way l t e .1)) in
           ap (gsvBody t) (read-told .2)
           ∙ ap (λ (x : List (List ℕ)). joinFields (talkerText t ++ ascii "GSV") x)
