@@ -122,7 +122,8 @@ pub group-same-bytes : (g : List ℕ) (t : Talker) (es : List Entry) → Group.g
 group-same-bytes = Skies.group-same-bytes
 
 -- .. what a group writer wrote is read back as the same table ..
-pub group-back : {t : Talker} {r : Table} {out : List ℕ} {answer : Written} {left : List ℕ} → WritesGroup t r out answer left → answer .no ≡ 0
+pub group-back : {t : Talker} {r : Table} {out : List ℕ} {answer : Written} {left : List ℕ} → WritesGroup t r out answer left
+    → answer .no ≡ 0
     → length (r .entries) ≡ 36 → Group.groupOf (take (answer .length) left) ≡ Group.whole t (take (r .count) (r .entries))
 group-back = Skies.group-back
 
@@ -135,7 +136,8 @@ group-every-count = Exactly.every-count
 
 -- The lines of a whole group up to any before the last are refused, with 6 at the next line: half a list is no sky.
 pub group-half-refused : (g : List ℕ) (t : Talker) (es : List Entry) (ls : List (List ℕ)) (l : List ℕ) (ms : List (List ℕ))
-    → Group.groupOf g ≡ Group.whole t es → cutLines g ≡ ls ++ (l ∷ ms) → 0 < length ls → Group.groupOf (joined ls) ≡ Group.refused 6 (length ls + 1) 0
+    → Group.groupOf g ≡ Group.whole t es → cutLines g ≡ ls ++ (l ∷ ms) → 0 < length ls → Group.groupOf (joined ls) ≡ Group.refused 6
+    (length ls + 1) 0
 group-half-refused = Half.half-refused
 
 -- No reader that goes by the first line alone reads groups.
@@ -215,7 +217,8 @@ unfolding printFixed
 five-no-such-day y = no-such-day y
 
 -- A writer that refuses leaves every byte of the output, and one that writes leaves the bytes past what it wrote.
-pub refusal-leaves : {fault : Written} {body out : List ℕ} {answer : Written} {left : List ℕ} → Writes fault body out answer left → (answer .no ≡ 0 → ⊥) → left ≡ out
+pub refusal-leaves : {fault : Written} {body out : List ℕ} {answer : Written} {left : List ℕ} → Writes fault body out answer left
+    → (answer .no ≡ 0 → ⊥) → left ≡ out
 refusal-leaves = Writing.refusal-leaves
 
 pub rest-stays : {fault : Written} {body out : List ℕ} {answer : Written} {left : List ℕ} → Writes fault body out answer left
@@ -241,12 +244,14 @@ pub command-refusal-leaves-output : {s : Settings} {o : Outcome} {out : List ℕ
 command-refusal-leaves-output = Commands.refused-leaves-output
 
 -- .. settings in range stay in range, whatever the line ..
-pub settings-stay-in-range : (s : Settings) (p : ℕ) (l : List ℕ) {out : List ℕ} {d : Done} {left : List ℕ} → Does s (outcomeOf s p l) out d left
+pub settings-stay-in-range : (s : Settings) (p : ℕ) (l : List ℕ) {out : List ℕ} {d : Done} {left : List ℕ}
+    → Does s (outcomeOf s p l) out d left
     → settingsGood s ≡ true → settingsGood (d .settings) ≡ true
 settings-stay-in-range = Replies.settings-stay-in-range
 
 -- .. and the reply reads back as the record of the values after the command: here PIRPA; file Replies has it for each of the four.
-pub port-reply : (s : Settings) (p : ℕ) {out : List ℕ} {d : Done} {left : List ℕ} (r : PortAsked) → Does s (sentenceOutcome s p (S.Pr r)) out d left
+pub port-reply : (s : Settings) (p : ℕ) {out : List ℕ} {d : Done} {left : List ℕ} (r : PortAsked)
+    → Does s (sentenceOutcome s p (S.Pr r)) out d left
     → d .written .no ≡ 0 → readLine (take (d .written .length) left) ≡ aloneOf (S.Pa (portTold (d .settings) (namedPort p r)))
 port-reply = Replies.port-reply
 
@@ -255,7 +260,8 @@ pub step-alters : ((s : Settings) (p : ℕ) (l : List ℕ) (room : ℕ) → sett
 step-alters = Rows.step-alters
 
 -- A record that crossed to a host as numbers, handed back, is what the line came to; a refusal leaves the host's numbers.
-pub host-back : (l numbers : List ℕ) → (toldFor (readLine l) numbers .kind ≡ 0 → ⊥) → recordAt (toldFor (readLine l) numbers .kind) (laidFor (readLine l) numbers) ≡ readLine l
+pub host-back : (l numbers : List ℕ) → (toldFor (readLine l) numbers .kind ≡ 0 → ⊥) → recordAt (toldFor (readLine l) numbers .kind)
+    (laidFor (readLine l) numbers) ≡ readLine l
 host-back = Host.host-back
 
 pub host-refusal-leaves : (r : Reading) (numbers : List ℕ) → (toldFor r numbers .no ≡ 0 → ⊥) → laidFor r numbers ≡ numbers
@@ -275,7 +281,8 @@ sevens-only = Groups.sevens-only
 
 -- An index that was written reads back as the entries that were given ..
 pub index-back : (numbers out : List ℕ) → Exhibit.writtenIndex numbers (length out) .no ≡ 0
-    → Index.readIndex (take (Exhibit.writtenIndex numbers (length out) .length) (Exhibit.leftIndex numbers out)) ≡ Index.listed (Exhibit.entriesOf numbers)
+    → Index.readIndex (take (Exhibit.writtenIndex numbers (length out) .length) (Exhibit.leftIndex numbers out)) ≡ Index.listed
+    (Exhibit.entriesOf numbers)
 index-back = Promises.written-back
 
 -- .. bytes that read are the bytes of their entries, which are in range and order ..
@@ -307,7 +314,8 @@ index-found-entry = Promises.entry-found
 
 -- .. it is refused with 12 exactly where no entry has it ..
 pub index-not-found : (s : List ℕ) (es : List IndexEntry.Entry) → Index.readIndex s ≡ Index.listed es → (number : ℕ)
-    → ((e : IndexEntry.Entry) → Promises.Stands e es → e .number ≡ number → ⊥) → Exhibit.foundIn number (Index.readIndex s) ≡ Exhibit.finding 12 0 0
+    → ((e : IndexEntry.Entry) → Promises.Stands e es → e .number ≡ number → ⊥)
+    → Exhibit.foundIn number (Index.readIndex s) ≡ Exhibit.finding 12 0 0
 index-not-found = Promises.none-found
 
 pub index-twelve : (s : List ℕ) (es : List IndexEntry.Entry) → Index.readIndex s ≡ Index.listed es → (number : ℕ)
@@ -326,7 +334,8 @@ pub index-ascending : (s : List ℕ) (front : List IndexEntry.Entry) (d e : Inde
 index-ascending = Promises.ascending
 
 -- What is added: the new bytes are the old and the entry's, and read as the old entries and the new one ..
-pub index-added : (buffer : List ℕ) (used : ℕ) (e : IndexEntry.Entry) → Exhibit.addedIndex buffer used e .no ≡ 0 → Promises.Added buffer used e
+pub index-added : (buffer : List ℕ) (used : ℕ) (e : IndexEntry.Entry) → Exhibit.addedIndex buffer used e .no ≡ 0
+    → Promises.Added buffer used e
 index-added = Promises.added
 
 -- .. and 5 is given exactly where it does not fit behind the last.
@@ -342,14 +351,17 @@ pub index-turns : {before last : IndexEntry.Entry} {s kept : List ℕ} {es : Lis
 index-turns = IndexTurns.turns
 
 -- No bytes that come mend bytes that no entry begins with.
-pub index-bad-stays : (before : IndexEntry.Entry) (s t : List ℕ) → Index.entryOf before s ≡ Index.bad → Index.readFrom before (s ++ t) ≡ Index.noIndex
+pub index-bad-stays : (before : IndexEntry.Entry) (s t : List ℕ) → Index.entryOf before s ≡ Index.bad
+    → Index.readFrom before (s ++ t) ≡ Index.noIndex
 index-bad-stays = IndexTurns.bad-stays
 
 -- A refusal of the index leaves every lent byte and number, and the places for its answer.
-pub index-write-leaves : (numbers out : List ℕ) → (Exhibit.writtenIndex numbers (length out) .no ≡ 0 → ⊥) → Exhibit.leftIndex numbers out ≡ out
+pub index-write-leaves : (numbers out : List ℕ) → (Exhibit.writtenIndex numbers (length out) .no ≡ 0 → ⊥)
+    → Exhibit.leftIndex numbers out ≡ out
 index-write-leaves = Promises.write-leaves
 
-pub index-read-leaves : (s out : List ℕ) → (Exhibit.listedFor (Index.readIndex s) (length out) .no ≡ 0 → ⊥) → Exhibit.laidFor (Index.readIndex s) out ≡ out
+pub index-read-leaves : (s out : List ℕ) → (Exhibit.listedFor (Index.readIndex s) (length out) .no ≡ 0 → ⊥)
+    → Exhibit.laidFor (Index.readIndex s) out ≡ out
 index-read-leaves = Promises.read-leaves
 
 pub index-add-leaves : (buffer : List ℕ) (used : ℕ) (e : IndexEntry.Entry) → (Exhibit.addedIndex buffer used e .no ≡ 0 → ⊥)

@@ -18,7 +18,8 @@ use Rattle.records.specs.declared.values.Signed.{Signed}
 use Rattle.records.specs.declared.values.Zone.{Zone}
 use Rattle.put.specs.Wrote.{Held, held, Puts, PutsFields}
 use Rattle.ranges.specs.Ranges.{alikeWrong, letterWrong, outside, placeWrong, portWrong, rangeWrong, signedWrong, sixWrong, threeWrong}
-use Rattle.texts.specs.Texts.{dayField, ewField, heightText, hoursField, ifThere, latField, letterField, lonField, minutesField, monthField, nsField, sixField, variationField, variationSide, yearField}
+use Rattle.texts.specs.Texts.{dayField, ewField, heightText, hoursField, ifThere, latField, letterField, lonField, minutesField}
+use Rattle.texts.specs.Texts.{monthField, nsField, sixField, variationField, variationSide, yearField}
 use Rattle.sealing.specs.declared.Written.{Written}
 use Rattle.sealing.specs.Body.{talkerText}
 use Rattle.sealing.specs.Written.{faultAt, refused, Writes}
@@ -63,7 +64,8 @@ abbrev pub OnePut : List ℕ → ℕ → List ℕ → Type 0
 OnePut d at text = (r q : ℕ) (e f : List ℕ) → Puts (held at d) text (held r e) → Puts (held at d) text (held q f) → (r ≡ q) × (e ≡ f)
 
 abbrev pub OneFields : List ℕ → ℕ → List (List ℕ) → Type 0
-OneFields d at fields = (r q : ℕ) (e f : List ℕ) → PutsFields (held at d) fields (held r e) → PutsFields (held at d) fields (held q f) → (r ≡ q) × (e ≡ f)
+OneFields d at fields = (r q : ℕ) (e f : List ℕ) → PutsFields (held at d) fields (held r e) → PutsFields (held at d) fields (held q f)
+    → (r ≡ q) × (e ≡ f)
 
 halves : (r q : ℕ) (e f : List ℕ) → held r e ≡ held q f → (r ≡ q) × (e ≡ f)
 halves r q e f p = (ap (λ (h : Held). h .place) p, ap (λ (h : Held). h .bytes) p)
@@ -270,5 +272,9 @@ sky-mark seen used n = (one, one)
 pub is-blank : (e : Entry) → One (isBlank e)
 is-blank e = one
 
-pub entry-wrong : (used : Bool) (e : Entry) (n rest : ℕ) → One (cond used (nearOf n (outside 1 99 (e .number)) (nearOf (n + 1) (rangeWrong 0 90 (e .elevation .there) (e .elevation .value)) (nearOf (n + 2) (rangeWrong 0 359 (e .azimuth .there) (e .azimuth .value)) (nearOf (n + 3) (rangeWrong 0 99 (e .signal .there) (e .signal .value)) rest)))) rest)
+pub entry-wrong : (used : Bool) (e : Entry) (n rest : ℕ)
+    → One
+    (cond used (nearOf n (outside 1 99 (e .number)) (nearOf (n + 1) (rangeWrong 0 90 (e .elevation .there) (e .elevation .value))
+    (nearOf (n + 2) (rangeWrong 0 359 (e .azimuth .there) (e .azimuth .value))
+    (nearOf (n + 3) (rangeWrong 0 99 (e .signal .there) (e .signal .value)) rest)))) rest)
 entry-wrong used e n rest = one

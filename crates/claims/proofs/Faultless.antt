@@ -29,7 +29,8 @@ use Rattle.writecom.specs.Pirtr.{pirtrWrong}
 use Rattle.receiver.specs.declared.Port.{Port}
 use Rattle.receiver.specs.declared.Settings.{Settings}
 use Rattle.receiver.specs.Settings.{portOf, withPort, portGood, settingsGood}
-use Rattle.receiver.specs.Command.{Outcome, refuses, replies, namedPort, portAsked, afterPort, afterDatum, afterMasks, portTold, datumTold, masksTold, codeTold, sentenceOutcome, outcomeOf}
+use Rattle.receiver.specs.Command.{Outcome, refuses, replies, namedPort, portAsked, afterPort, afterDatum, afterMasks, portTold}
+use Rattle.receiver.specs.Command.{datumTold, masksTold, codeTold, sentenceOutcome, outcomeOf}
 use Rattle.claims.proofs.Replies.{InRange, in-range, port-set}
 use Rattle.claims.proofs.Rewriting.{Writable}
 use Rattle.claims.proofs.Writing as Writing
@@ -75,7 +76,8 @@ told-of : (s : Settings) (n : ℕ) → InRange s → portGood (portOf s n) ≡ t
 told-of s zero g = g .first
 told-of s (suc n) g = g .second
 
-port-good : (n : ℕ) (q : Port) → outside 0 1 n ≡ 0 → portGood q ≡ true → pirpaWrong (record { port = n; rate = q .rate; protocol = q .protocol; mask = q .mask }) ≡ 0
+port-good : (n : ℕ) (q : Port) → outside 0 1 n ≡ 0 → portGood q ≡ true
+    → pirpaWrong (record { port = n; rate = q .rate; protocol = q .protocol; mask = q .mask }) ≡ 0
 unfolding faultBy pirpaRow nearOf rangeWrong portGood
 port-good n q e g =
     let g1 = and-right (eqb (outside 1200 115200 (q .rate)) 0) _ g in
@@ -94,13 +96,16 @@ asked-good r e t =
     let a = alike (r .rate .there) (r .protocol .there) (rangeWrong 0 4 (r .protocol .there) (r .protocol .value)) (z2 .0) in
     let b = alike (r .rate .there) (r .mask .there) (portWrong (r .mask .there) (r .mask .value)) (z3 .0) in
     let rate : outside 1200 115200 (r .rate .value) ≡ 0 = sym (ap (λ (x : Bool). rangeWrong 1200 115200 x (r .rate .value)) t) ∙ z1 .0 in
-    let protocol : outside 0 4 (r .protocol .value) ≡ 0 = sym (ap (λ (x : Bool). rangeWrong 0 4 x (r .protocol .value)) (sym (a .0) ∙ t)) ∙ a .1 in
+    let protocol : outside 0 4 (r .protocol .value) ≡ 0 = sym (ap (λ (x : Bool). rangeWrong 0 4 x (r .protocol .value))
+    (sym (a .0) ∙ t)) ∙ a .1 in
     let mask : portWrong true (r .mask .value) ≡ 0 = sym (ap (λ (x : Bool). portWrong x (r .mask .value)) (sym (b .0) ∙ t)) ∙ b .1 in
     rw (rate, protocol, mask)
 
-port-faultless : (s : Settings) (p : ℕ) (r : PortAsked) → InRange s → p < 2 → pirprWrong r ≡ 0 → pirpaWrong (portTold (afterPort s p r) (namedPort p r)) ≡ 0
+port-faultless : (s : Settings) (p : ℕ) (r : PortAsked) → InRange s → p < 2 → pirprWrong r ≡ 0
+    → pirpaWrong (portTold (afterPort s p r) (namedPort p r)) ≡ 0
 unfolding faultBy pirprRow
-port-faultless s p r g h e = port-good (namedPort p r) (portOf (afterPort s p r) (namedPort p r)) (named-in p r h (near-zero _ _ _ e .0)) (go (r .rate .there) refl)
+port-faultless s p r g h e = port-good (namedPort p r) (portOf (afterPort s p r) (namedPort p r))
+    (named-in p r h (near-zero _ _ _ e .0)) (go (r .rate .there) refl)
   where
     go : (b : Bool) → r .rate .there ≡ b → portGood (portOf (pick b (withPort s (namedPort p r) (portAsked r)) s) (namedPort p r)) ≡ true
     go true t = ap portGood (port-set (namedPort p r) s (portAsked r)) ∙ asked-good r e t
@@ -121,7 +126,19 @@ unfolding rangeWrong
 datum-faultless s r g e = go (r .datum .there) refl
   where
     go : (b : Bool) → r .datum .there ≡ b
-        → pirtaWrong (datumTold (pick b (record { first = s .first; second = s .second; datum = r .datum .value; zone = r .zone .minutes; gps = s .gps; glonass = s .glonass; code = s .code }) s)) ≡ 0
+        → pirtaWrong
+        (datumTold
+        (pick b
+        (record {
+          first = s .first;
+          second = s .second;
+          datum = r .datum .value;
+          zone = r .zone .minutes;
+          gps = s .gps;
+          glonass = s
+              .glonass;
+          code = s .code;
+        }) s)) ≡ 0
     go true t =
         let z = asked-datum r e in
         let a = alike (r .datum .there) (r .zone .there) (signedWrong 839 (r .zone .there) (r .zone .minutes)) (z .1) in
@@ -153,7 +170,8 @@ code-faultless : (s : Settings) → InRange s → pireaWrong (codeTold s) ≡ 0
 unfolding faultBy pireaRow nearOf
 code-faultless s g = rw (g .code)
 
-sentence-faultless : (s : Settings) (p : ℕ) (x : Sentence) (a : Gsa) (v : Gsv) → InRange s → p < 2 → Writable x a v → Faultless (sentenceOutcome s p x)
+sentence-faultless : (s : Settings) (p : ℕ) (x : Sentence) (a : Gsa) (v : Gsv) → InRange s → p < 2 → Writable x a v
+    → Faultless (sentenceOutcome s p x)
 sentence-faultless s p (S.Pr r) a v g h w = zero-fault _ (port-faultless s p r g h (w .0))
 sentence-faultless s p (S.Tr r) a v g h w = zero-fault _ (datum-faultless s r g (w .0))
 sentence-faultless s p (S.Sr r) a v g h w = zero-fault _ (masks-faultless s r g (w .0))
@@ -176,9 +194,11 @@ pub replies-faultless : (s : Settings) (p : ℕ) (l : List ℕ) → Faultless (o
 unfolding outcomeOf
 replies-faultless s p l = go (ltb p 2 && settingsGood s) (eqb (portOf s p .protocol) 4) refl
   where
-    go : (a b : Bool) → (ltb p 2 && settingsGood s) ≡ a → Faultless (pick a (pick b (sentenceOutcome s p (readLine l .sentence)) (refuses 10 1 0)) (refuses 5 0 0))
+    go : (a b : Bool) → (ltb p 2 && settingsGood s) ≡ a
+        → Faultless (pick a (pick b (sentenceOutcome s p (readLine l .sentence)) (refuses 10 1 0)) (refuses 5 0 0))
     go true true e =
         let r = readLine l in
-        sentence-faultless s p (r .sentence) (r .gsa) (r .gsv) (in-range s (and-right (ltb p 2) _ e)) (ltb-true p 2 (and-left _ _ e)) (Writing.read-can-be-written l)
+        sentence-faultless s p (r .sentence) (r .gsa) (r .gsv) (in-range s (and-right (ltb p 2) _ e)) (ltb-true p 2 (and-left _ _ e))
+        (Writing.read-can-be-written l)
     go true false e = tt
     go false b e = tt

@@ -56,7 +56,8 @@ longGga =
     }
 
 pub gga-can-pass : (ggaWrong longGga ≡ 0) × (82 < length (asLine (ggaBody Gp longGga)))
-unfolding faultBy fieldsFor ggaRow nearOf rangeWrong outside placeWrong signedWrong joinFields numberText plainText widthOf fractionText printFixed
+unfolding faultBy fieldsFor ggaRow nearOf rangeWrong outside placeWrong signedWrong joinFields numberText plainText widthOf fractionText
+    printFixed
 gga-can-pass = (refl, lit< tt)
 
 abbrev pub longRmc : Rmc
@@ -73,14 +74,24 @@ longRmc =
     }
 
 pub rmc-can-pass : (rmcWrong longRmc ≡ 0) × (82 < length (asLine (rmcBody Gp longRmc)))
-unfolding faultBy fieldsFor rmcRow nearOf rangeWrong outside placeWrong signedWrong sixWrong isDate daysIn leapYear letterWrong isIn joinFields numberText plainText widthOf fractionText printFixed
+unfolding faultBy fieldsFor rmcRow nearOf rangeWrong outside placeWrong signedWrong sixWrong isDate daysIn leapYear letterWrong isIn
+    joinFields numberText plainText widthOf fractionText printFixed
 rmc-can-pass = (refl, lit< tt)
 
 abbrev pub longGsa : Gsa
-longGsa = record { selection = 65; fix = 3; satellites = replicate 12 (record { there = true; value = 5 }); pdop = most; hdop = most; vdop = most }
+longGsa = record {
+  selection = 65;
+  fix = 3;
+  satellites = replicate 12
+      (record { there = true; value = 5 });
+  pdop = most;
+  hdop = most;
+  vdop = most;
+}
 
 pub gsa-can-pass : (gsaWrong longGsa ≡ 0) × (82 < length (asLine (gsaBody Gp longGsa)))
-unfolding gsaWrong gsaFields faultBy fieldsFor gsaRow nearOf rangeWrong outside letterWrong isIn joinFields numberText plainText widthOf fractionText printFixed
+unfolding gsaWrong gsaFields faultBy fieldsFor gsaRow nearOf rangeWrong outside letterWrong isIn joinFields numberText plainText widthOf
+    fractionText printFixed
 gsa-can-pass = (refl, lit< tt)
 
 -- One line is not written for two records: what differs when read differs when written.
@@ -111,6 +122,7 @@ codeOf (S.Refused n f) = 0
 pub no-constant-writer : (line : List ℕ) → asLine (pireaBody (code 0)) ≡ line → asLine (pireaBody (code 1)) ≡ line → ⊥
 unfolding faultBy pireaRow nearOf outside
 no-constant-writer line e f =
-    different-bytes (asLine (pireaBody (code 0))) (asLine (pireaBody (code 1))) _ _ (C.pirea .read-write (code 0) refl) (C.pirea .read-write (code 1) refl)
+    different-bytes (asLine (pireaBody (code 0))) (asLine (pireaBody (code 1))) _ _ (C.pirea .read-write (code 0) refl)
+    (C.pirea .read-write (code 1) refl)
     (λ q. let z : _≡_ {A = ℕ} 0 1 = ap (λ (r : Reading). codeOf (r .sentence)) q in omega (arith, z))
     (e ∙ sym f)

@@ -25,7 +25,8 @@ use Rattle.receiver.specs.declared.Done.{Done}
 use Rattle.receiver.specs.declared.Port.{Port}
 use Rattle.receiver.specs.declared.Settings.{Settings}
 use Rattle.receiver.specs.Settings.{portOf, withPort, portGood, settingsGood}
-use Rattle.receiver.specs.Command.{refuses, replies, namedPort, portAsked, afterPort, afterDatum, afterMasks, portTold, datumTold, masksTold, codeTold, sentenceOutcome, outcomeOf, settingsAfter, Does}
+use Rattle.receiver.specs.Command.{refuses, replies, namedPort, portAsked, afterPort, afterDatum, afterMasks, portTold, datumTold}
+use Rattle.receiver.specs.Command.{masksTold, codeTold, sentenceOutcome, outcomeOf, settingsAfter, Does}
 use Rattle.claims.proofs.Writing as Writing
 use Rattle.rowlaws.proofs.Laws.{near-zero}
 use Rattle.row.specs.Kind.{faultBy}
@@ -34,7 +35,8 @@ use Rattle.commands.specs.Pirta.{pirtaRow}
 use Rattle.commands.specs.Pirsa.{pirsaRow}
 
 -- A command that replies, and answers a length.
-module _ {s after : Settings} {fault : Written} {body out : List ℕ} {d : Done} {left : List ℕ} (w : Does s (replies after fault body) out d left) where
+module _ {s after : Settings} {fault : Written} {body out : List ℕ} {d : Done} {left : List ℕ}
+    (w : Does s (replies after fault body) out d left) where
   writes : Writes fault body out (d .written) left
   writes = record { answers = w .answers; leaves = w .leaves }
 
@@ -51,15 +53,18 @@ module _ (s : Settings) (p : ℕ) {out : List ℕ} {d : Done} {left : List ℕ} 
 
   pub datum-reply : (r : DatumAsked) → Does s (sentenceOutcome s p (S.Tr r)) out d left → d .written .no ≡ 0
       → readLine (take (d .written .length) left) ≡ aloneOf (S.Ta (datumTold (d .settings)))
-  datum-reply r w h = Writing.pirta-back (datumTold (afterDatum s r)) (writes w) h ∙ ap (λ (x : Settings). aloneOf (S.Ta (datumTold x))) (sym (settings-are w h))
+  datum-reply r w h = Writing.pirta-back (datumTold (afterDatum s r)) (writes w) h ∙ ap (λ (x : Settings). aloneOf (S.Ta (datumTold x)))
+      (sym (settings-are w h))
 
   pub masks-reply : (r : MasksAsked) → Does s (sentenceOutcome s p (S.Sr r)) out d left → d .written .no ≡ 0
       → readLine (take (d .written .length) left) ≡ aloneOf (S.Sa (masksTold (d .settings)))
-  masks-reply r w h = Writing.pirsa-back (masksTold (afterMasks s r)) (writes w) h ∙ ap (λ (x : Settings). aloneOf (S.Sa (masksTold x))) (sym (settings-are w h))
+  masks-reply r w h = Writing.pirsa-back (masksTold (afterMasks s r)) (writes w) h ∙ ap (λ (x : Settings). aloneOf (S.Sa (masksTold x)))
+      (sym (settings-are w h))
 
   pub test-reply : Does s (sentenceOutcome s p S.Er) out d left → d .written .no ≡ 0
       → readLine (take (d .written .length) left) ≡ aloneOf (S.Ea (codeTold (d .settings)))
-  test-reply w h = Writing.pirea-back (codeTold s) (writes w) h ∙ ap (λ (x : Settings). aloneOf (S.Ea (codeTold x))) (sym (settings-are w h))
+  test-reply w h = Writing.pirea-back (codeTold s) (writes w) h ∙ ap (λ (x : Settings). aloneOf (S.Ea (codeTold x)))
+      (sym (settings-are w h))
 
 -- The settings in range, part by part.
 pub record InRange (s : Settings) : Type 0 where
@@ -94,7 +99,8 @@ unfolding settingsGood
 range-in s g = rw (g .first, g .second, g .datum, g .zone, g .gps, g .glonass, g .code)
 
 -- A port whose reply has no fault.
-port-in : (n : ℕ) (q : Port) → pirpaWrong (record { port = n; rate = q .rate; protocol = q .protocol; mask = q .mask }) ≡ 0 → portGood q ≡ true
+port-in : (n : ℕ) (q : Port) → pirpaWrong (record { port = n; rate = q .rate; protocol = q .protocol; mask = q .mask }) ≡ 0
+    → portGood q ≡ true
 unfolding faultBy pirpaRow rangeWrong portGood
 port-in n q e =
     let z0 = near-zero _ _ _ e in
@@ -104,27 +110,72 @@ port-in n q e =
     rw (z1 .0, z2 .0, z3 .0)
 
 with-in : (n : ℕ) (s : Settings) (q : Port) → InRange s → portGood q ≡ true → InRange (withPort s n q)
-with-in zero s q g e = record { first = e; second = g .second; datum = g .datum; zone = g .zone; gps = g .gps; glonass = g .glonass; code = g .code }
-with-in (suc n) s q g e = record { first = g .first; second = e; datum = g .datum; zone = g .zone; gps = g .gps; glonass = g .glonass; code = g .code }
+with-in zero s q g e = record {
+  first = e;
+  second = g .second;
+  datum = g .datum;
+  zone = g .zone;
+  gps = g .gps;
+  glonass = g .glonass;
+  code = g .code;
+}
+with-in (suc n) s q g e = record {
+  first = g .first;
+  second = e;
+  datum = g .datum;
+  zone = g .zone;
+  gps = g .gps;
+  glonass = g .glonass;
+  code = g .code;
+}
 
 -- A port that was set has what it was set to.
 pub port-set : (n : ℕ) (s : Settings) (q : Port) → portOf (withPort s n q) n ≡ q
 port-set zero s q = refl
 port-set (suc n) s q = refl
 
-after-port-in : (s : Settings) (p : ℕ) (r : PortAsked) → InRange s → pirpaWrong (portTold (afterPort s p r) (namedPort p r)) ≡ 0 → InRange (afterPort s p r)
+after-port-in : (s : Settings) (p : ℕ) (r : PortAsked) → InRange s → pirpaWrong (portTold (afterPort s p r) (namedPort p r)) ≡ 0
+    → InRange (afterPort s p r)
 after-port-in s p r g e = go (r .rate .there) e
   where
-    go : (b : Bool) → pirpaWrong (portTold (pick b (withPort s (namedPort p r) (portAsked r)) s) (namedPort p r)) ≡ 0 → InRange (pick b (withPort s (namedPort p r) (portAsked r)) s)
-    go true i = with-in (namedPort p r) s (portAsked r) g (port-in (namedPort p r) (portAsked r) (ap (λ (q : Port). pirpaWrong (record { port = namedPort p r; rate = q .rate; protocol = q .protocol; mask = q .mask })) (sym (port-set (namedPort p r) s (portAsked r))) ∙ i))
+    go : (b : Bool) → pirpaWrong (portTold (pick b (withPort s (namedPort p r) (portAsked r)) s) (namedPort p r)) ≡ 0
+        → InRange (pick b (withPort s (namedPort p r) (portAsked r)) s)
+    go true i = with-in (namedPort p r) s (portAsked r) g
+        (port-in (namedPort p r) (portAsked r)
+        (ap (λ (q : Port). pirpaWrong (record { port = namedPort p r; rate = q .rate; protocol = q .protocol; mask = q .mask }))
+        (sym (port-set (namedPort p r) s (portAsked r))) ∙ i))
     go false i = g
 
 after-datum-in : (s : Settings) (r : DatumAsked) → InRange s → pirtaWrong (datumTold (afterDatum s r)) ≡ 0 → InRange (afterDatum s r)
 unfolding faultBy pirtaRow
 after-datum-in s r g e = go (r .datum .there) e
   where
-    go : (b : Bool) → pirtaWrong (datumTold (pick b (record { first = s .first; second = s .second; datum = r .datum .value; zone = r .zone .minutes; gps = s .gps; glonass = s .glonass; code = s .code }) s)) ≡ 0
-        → InRange (pick b (record { first = s .first; second = s .second; datum = r .datum .value; zone = r .zone .minutes; gps = s .gps; glonass = s .glonass; code = s .code }) s)
+    go : (b : Bool)
+        → pirtaWrong
+        (datumTold
+        (pick b
+        (record {
+          first = s .first;
+          second = s .second;
+          datum = r .datum .value;
+          zone = r .zone .minutes;
+          gps = s .gps;
+          glonass = s
+              .glonass;
+          code = s .code;
+        }) s)) ≡ 0
+        → InRange
+        (pick b
+        (record {
+          first = s .first;
+          second = s .second;
+          datum = r .datum .value;
+          zone = r .zone .minutes;
+          gps = s .gps;
+          glonass = s
+              .glonass;
+          code = s .code;
+        }) s)
     go true i =
         let z0 = near-zero _ _ _ i in
         let z1 = near-zero _ _ _ (z0 .1) in
@@ -147,7 +198,8 @@ no-fault fault body room e = go (eqb (fault .no) 0) _ refl e
     go true x q i = eqb-true (fault .no) 0 q
     go false x q i = i
 
-kept-in : (s after : Settings) (fault : Written) (body : List ℕ) (room : ℕ) → InRange s → (fault .no ≡ 0 → InRange after) → InRange (settingsAfter s (replies after fault body) room)
+kept-in : (s after : Settings) (fault : Written) (body : List ℕ) (room : ℕ) → InRange s → (fault .no ≡ 0 → InRange after)
+    → InRange (settingsAfter s (replies after fault body) room)
 kept-in s after fault body room g h = go (eqb (writtenOf fault body room .no) 0) refl
   where
     go : (b : Bool) → eqb (writtenOf fault body room .no) 0 ≡ b → InRange (pick b after s)
@@ -155,9 +207,12 @@ kept-in s after fault body room g h = go (eqb (writtenOf fault body room .no) 0)
     go false q = g
 
 sentence-in : (s : Settings) (p : ℕ) (x : Sentence) (room : ℕ) → InRange s → InRange (settingsAfter s (sentenceOutcome s p x) room)
-sentence-in s p (S.Pr r) room g = kept-in s (afterPort s p r) _ _ room g (λ h. after-port-in s p r g (Writing.fault-zero (pirpaWrong (portTold (afterPort s p r) (namedPort p r))) h))
-sentence-in s p (S.Tr r) room g = kept-in s (afterDatum s r) _ _ room g (λ h. after-datum-in s r g (Writing.fault-zero (pirtaWrong (datumTold (afterDatum s r))) h))
-sentence-in s p (S.Sr r) room g = kept-in s (afterMasks s r) _ _ room g (λ h. after-masks-in s r g (Writing.fault-zero (pirsaWrong (masksTold (afterMasks s r))) h))
+sentence-in s p (S.Pr r) room g = kept-in s (afterPort s p r) _ _ room g
+    (λ h. after-port-in s p r g (Writing.fault-zero (pirpaWrong (portTold (afterPort s p r) (namedPort p r))) h))
+sentence-in s p (S.Tr r) room g = kept-in s (afterDatum s r) _ _ room g
+    (λ h. after-datum-in s r g (Writing.fault-zero (pirtaWrong (datumTold (afterDatum s r))) h))
+sentence-in s p (S.Sr r) room g = kept-in s (afterMasks s r) _ _ room g
+    (λ h. after-masks-in s r g (Writing.fault-zero (pirsaWrong (masksTold (afterMasks s r))) h))
 sentence-in s p S.Er room g = kept-in s s _ _ room g (λ h. g)
 sentence-in s p (S.Refused n f) room g = g
 sentence-in s p (S.Gga t r) room g = g
@@ -176,11 +231,14 @@ outcome-in : (s : Settings) (p : ℕ) (l : List ℕ) (room : ℕ) → InRange s 
 unfolding outcomeOf
 outcome-in s p l room g = go (ltb p 2 && settingsGood s) (eqb (portOf s p .protocol) 4)
   where
-    go : (a b : Bool) → InRange (settingsAfter s (pick a (pick b (sentenceOutcome s p (readLine l .sentence)) (refuses 10 1 0)) (refuses 5 0 0)) room)
+    go : (a b : Bool)
+        → InRange (settingsAfter s (pick a (pick b (sentenceOutcome s p (readLine l .sentence)) (refuses 10 1 0)) (refuses 5 0 0)) room)
     go true true = sentence-in s p (readLine l .sentence) room g
     go true false = g
     go false b = g
 
-pub settings-stay-in-range : (s : Settings) (p : ℕ) (l : List ℕ) {out : List ℕ} {d : Done} {left : List ℕ} → Does s (outcomeOf s p l) out d left
+pub settings-stay-in-range : (s : Settings) (p : ℕ) (l : List ℕ) {out : List ℕ} {d : Done} {left : List ℕ}
+    → Does s (outcomeOf s p l) out d left
     → settingsGood s ≡ true → settingsGood (d .settings) ≡ true
-settings-stay-in-range s p l {out} {d} {left} w g = range-in (d .settings) (subst (λ (x : Settings). InRange x) (sym (w .settings)) (outcome-in s p l (length out) (in-range s g)))
+settings-stay-in-range s p l {out} {d} {left} w g = range-in (d .settings) (subst (λ (x : Settings). InRange x) (sym (w .settings))
+    (outcome-in s p l (length out) (in-range s g)))

@@ -119,7 +119,8 @@ address-long body t k e = go (eqb (getD body 5 0) 44 && commaFree (take 5 body))
         by true q = leb-true 5 (length body) q
         by false q = absurd (no (no-sixth body (omega (arith, leb-false 5 (length body) q)) ∙ e))
 
-    go : (b : Bool) → (eqb (getD body 5 0) 44 && commaFree (take 5 body)) ≡ b → pick b (knownOf (take 5 body)) Unknown ≡ Standard t k → 5 ≤ length (getD (fieldsOf body) 0 [])
+    go : (b : Bool) → (eqb (getD body 5 0) 44 && commaFree (take 5 body)) ≡ b → pick b (knownOf (take 5 body)) Unknown ≡ Standard t k
+        → 5 ≤ length (getD (fieldsOf body) 0 [])
     go true q i = first-long 5 body long (and-right (eqb (getD body 5 0) 44) _ q)
     go false q i = absurd (no i)
 
@@ -150,39 +151,76 @@ fields-long body t k a n c = let r = first-field body in go (r .0) (r .1) (r .2)
         omega (arith, g, s, b, ap (bytes own 0) l, body-long body f fs q)
 
 -- The body of a talker's sentence, by its fields.
-standard-long : (t : Talker) (kind : List ℕ) (fs : List (List ℕ)) (n : ℕ) → length kind ≡ 3 → total fs ≤ n → length (joinFields (talkerText t ++ kind) fs) ≤ 5 + n
+standard-long : (t : Talker) (kind : List ℕ) (fs : List (List ℕ)) (n : ℕ) → length kind ≡ 3 → total fs ≤ n
+    → length (joinFields (talkerText t ++ kind) fs) ≤ 5 + n
 standard-long t kind fs n h i = omega (arith, joined-length (talkerText t ++ kind) fs, address-five t kind h, i)
 
 module _ (body : List ℕ) (room : length body ≤ 76) where
-  standard-written : (t : Talker) (k : Kind) → addressOf body ≡ Standard t k → CanBeWritten (standardOf t k (length (fieldsOf body) - 1) (theFields body))
+  standard-written : (t : Talker) (k : Kind) → addressOf body ≡ Standard t k
+      → CanBeWritten (standardOf t k (length (fieldsOf body) - 1) (theFields body))
   standard-written t K.Gga a =
       N.gga .write-read t (length (fieldsOf body) - 1) (theFields body) (λ (x : Sentence). CanBeWritten (aloneOf x)) (λ n f. tt)
-      (λ r c w u. (w, fits (ggaBody t r) (omega (arith, standard-long t (ascii "GGA") (ggaFields r) _ refl u, fields-long body t K.Gga a _ c, room))))
+      (λ r c w u. (
+        w,
+        fits (ggaBody t r) (omega (
+          arith,
+          standard-long t (ascii "GGA") (ggaFields r) _ refl u,
+          fields-long body t K.Gga a _ c,
+          room,
+        )),
+      ))
   standard-written t K.Rmc a =
       N.rmc .write-read t (length (fieldsOf body) - 1) (theFields body) (λ (x : Sentence). CanBeWritten (aloneOf x)) (λ n f. tt)
-      (λ r c w u. (w, fits (rmcBody t r) (omega (arith, standard-long t (ascii "RMC") (rmcFields r) _ refl u, fields-long body t K.Rmc a _ c, room))))
+      (λ r c w u. (
+        w,
+        fits (rmcBody t r) (omega (
+          arith,
+          standard-long t (ascii "RMC") (rmcFields r) _ refl u,
+          fields-long body t K.Rmc a _ c,
+          room,
+        )),
+      ))
   standard-written t K.Gll a =
-      N.gll .write-read t (length (fieldsOf body) - 1) (theFields body) (λ (x : Sentence). CanBeWritten (aloneOf x)) (λ n f. tt) (λ r c w u. (w, fits (gllBody t r) (N.gll-fits t r w)))
+      N.gll .write-read t (length (fieldsOf body) - 1) (theFields body) (λ (x : Sentence). CanBeWritten (aloneOf x)) (λ n f. tt)
+      (λ r c w u. (w, fits (gllBody t r) (N.gll-fits t r w)))
   standard-written t K.Vtg a =
-      N.vtg .write-read t (length (fieldsOf body) - 1) (theFields body) (λ (x : Sentence). CanBeWritten (aloneOf x)) (λ n f. tt) (λ r c w u. (w, fits (vtgBody t r) (N.vtg-fits t r w)))
+      N.vtg .write-read t (length (fieldsOf body) - 1) (theFields body) (λ (x : Sentence). CanBeWritten (aloneOf x)) (λ n f. tt)
+      (λ r c w u. (w, fits (vtgBody t r) (N.vtg-fits t r w)))
   standard-written t K.Zda a =
-      N.zda .write-read t (length (fieldsOf body) - 1) (theFields body) (λ (x : Sentence). CanBeWritten (aloneOf x)) (λ n f. tt) (λ r c w u. (w, fits (zdaBody t r) (N.zda-fits t r w)))
+      N.zda .write-read t (length (fieldsOf body) - 1) (theFields body) (λ (x : Sentence). CanBeWritten (aloneOf x)) (λ n f. tt)
+      (λ r c w u. (w, fits (zdaBody t r) (N.zda-fits t r w)))
   standard-written t K.Gsa a =
       TGsa.write-read t (length (fieldsOf body) - 1) (theFields body) (λ (x : Reading). CanBeWritten x) (λ n f. tt)
-      (λ r e c w u. (w, fits (gsaBody t r) (omega (arith, standard-long t (ascii "GSA") (gsaFields r) _ refl u, fields-long body t K.Gsa a _ c, room))))
+      (λ r e c w u. (
+        w,
+        fits (gsaBody t r) (omega (
+          arith,
+          standard-long t (ascii "GSA") (gsaFields r) _ refl u,
+          fields-long body t K.Gsa a _ c,
+          room,
+        )),
+      ))
   standard-written t K.Gsv a =
       TGsv.write-read t (theFields body) (λ (x : Reading). CanBeWritten x) (λ n f. tt)
       (λ r e g. (fault-none r g, fits (gsvBody t r) (TGsv.fits t r))) (length (fieldsOf body) - 1)
 
   maker-written : (k : Pir) → CanBeWritten (makerOf k (length (fieldsOf body) - 1) (theFields body))
-  maker-written P.Pr = C.pirpr .write-read (length (fieldsOf body) - 1) (theFields body) (λ (x : Sentence). CanBeWritten (aloneOf x)) (λ n f. tt) (λ r c w. (w, fits (pirprBody r) (C.pirpr .fits r w)))
-  maker-written P.Tr = C.pirtr .write-read (length (fieldsOf body) - 1) (theFields body) (λ (x : Sentence). CanBeWritten (aloneOf x)) (λ n f. tt) (λ r c w. (w, fits (pirtrBody r) (C.pirtr .fits r w)))
-  maker-written P.Sr = C.pirsr .write-read (length (fieldsOf body) - 1) (theFields body) (λ (x : Sentence). CanBeWritten (aloneOf x)) (λ n f. tt) (λ r c w. (w, fits (pirsrBody r) (C.pirsr .fits r w)))
-  maker-written P.Pa = C.pirpa .write-read (length (fieldsOf body) - 1) (theFields body) (λ (x : Sentence). CanBeWritten (aloneOf x)) (λ n f. tt) (λ r c w. (w, fits (pirpaBody r) (C.pirpa .fits r w)))
-  maker-written P.Ta = C.pirta .write-read (length (fieldsOf body) - 1) (theFields body) (λ (x : Sentence). CanBeWritten (aloneOf x)) (λ n f. tt) (λ r c w. (w, fits (pirtaBody r) (C.pirta .fits r w)))
-  maker-written P.Sa = C.pirsa .write-read (length (fieldsOf body) - 1) (theFields body) (λ (x : Sentence). CanBeWritten (aloneOf x)) (λ n f. tt) (λ r c w. (w, fits (pirsaBody r) (C.pirsa .fits r w)))
-  maker-written P.Ea = C.pirea .write-read (length (fieldsOf body) - 1) (theFields body) (λ (x : Sentence). CanBeWritten (aloneOf x)) (λ n f. tt) (λ r c w. (w, fits (pireaBody r) (C.pirea .fits r w)))
-  maker-written P.Er = C.pirer .write-read (length (fieldsOf body) - 1) (theFields body) (λ (x : Sentence). CanBeWritten (aloneOf x)) (λ n f. tt) (λ v c w. fits pirerBody (C.pirer .fits tt w))
+  maker-written P.Pr = C.pirpr .write-read (length (fieldsOf body) - 1) (theFields body) (λ (x : Sentence). CanBeWritten (aloneOf x))
+      (λ n f. tt) (λ r c w. (w, fits (pirprBody r) (C.pirpr .fits r w)))
+  maker-written P.Tr = C.pirtr .write-read (length (fieldsOf body) - 1) (theFields body) (λ (x : Sentence). CanBeWritten (aloneOf x))
+      (λ n f. tt) (λ r c w. (w, fits (pirtrBody r) (C.pirtr .fits r w)))
+  maker-written P.Sr = C.pirsr .write-read (length (fieldsOf body) - 1) (theFields body) (λ (x : Sentence). CanBeWritten (aloneOf x))
+      (λ n f. tt) (λ r c w. (w, fits (pirsrBody r) (C.pirsr .fits r w)))
+  maker-written P.Pa = C.pirpa .write-read (length (fieldsOf body) - 1) (theFields body) (λ (x : Sentence). CanBeWritten (aloneOf x))
+      (λ n f. tt) (λ r c w. (w, fits (pirpaBody r) (C.pirpa .fits r w)))
+  maker-written P.Ta = C.pirta .write-read (length (fieldsOf body) - 1) (theFields body) (λ (x : Sentence). CanBeWritten (aloneOf x))
+      (λ n f. tt) (λ r c w. (w, fits (pirtaBody r) (C.pirta .fits r w)))
+  maker-written P.Sa = C.pirsa .write-read (length (fieldsOf body) - 1) (theFields body) (λ (x : Sentence). CanBeWritten (aloneOf x))
+      (λ n f. tt) (λ r c w. (w, fits (pirsaBody r) (C.pirsa .fits r w)))
+  maker-written P.Ea = C.pirea .write-read (length (fieldsOf body) - 1) (theFields body) (λ (x : Sentence). CanBeWritten (aloneOf x))
+      (λ n f. tt) (λ r c w. (w, fits (pireaBody r) (C.pirea .fits r w)))
+  maker-written P.Er = C.pirer .write-read (length (fieldsOf body) - 1) (theFields body) (λ (x : Sentence). CanBeWritten (aloneOf x))
+      (λ n f. tt) (λ v c w. fits pirerBody (C.pirer .fits tt w))
 
   addressed-written : (a : Address) → addressOf body ≡ a → CanBeWritten (addressed a (length (fieldsOf body) - 1) (theFields body))
   addressed-written (Standard t k) e = standard-written t k e

@@ -42,7 +42,8 @@ use Rattle.records.specs.Blank.{noMaybe}
 use Rattle.records.specs.Wrong.{nearOf, firstWrong}
 use Rattle.satellites.specs.View.{firstOf, entryAt, entryFrom, entriesOf, gsvRow, gsvWith, gsvOf}
 use Rattle.reading.specs.Lines.{readBody, readLine}
-use Rattle.sky.specs.Group.{Answer, whole, refused, linesFor, entriesAt, sameTalker, inPlace, follows, numbered, repeats, gsvRule, rule, ended, groupOf}
+use Rattle.sky.specs.Group.{Answer, whole, refused, linesFor, entriesAt, sameTalker, inPlace, follows, numbered, repeats, gsvRule, rule}
+use Rattle.sky.specs.Group.{ended, groupOf}
 use Rattle.sevens.specs.Sevens.{groups, sevens, takeGroups, takeSevens}
 use Rattle.sevens.specs.Sevens as Sevens
 use Rattle.index.specs.Index.{readFrom as indexFrom}
@@ -157,12 +158,73 @@ ones-by zero n = refl
 ones-by (suc k) n = ones-step n ∙ ap (λ (x : ℕ). n % 2 + x) (ones-by k (n / 2))
 
 pub rows-hold : AllHold rows
-unfolding rows same hexDigit hexOf noneOf bodyByte bodyBytes xorFrom xorOf endForm lineForm endGives lineRefusal isDigit digitsFrom digitsOf withinOf joinedOf angleOf latitudeOf longitudeOf letteredOf sidedOf pairAt leapYear daysIn isDate dateAt fullYear dateSix minus bareOf zoneOf zoneAt zoneTwo bind lookUp knownOf commaFree addressOf onto fieldsOf fixedOf maybeOf before cutRest cutLines readFrom readLines readBy answerBy faultBy fieldsFor nearOf firstWrong firstOf entryAt entryFrom entriesOf gsvRow gsvWith gsvOf readBody readLine linesFor entriesAt sameTalker inPlace follows numbered repeats gsvRule rule ended groupOf joinFields hexFrom hexDigitsOf printHex satellitesOf satellitesForm isPortMask emptyWrong outside rangeWrong signedWrong portWrong pirsrRow pirsaRow portGood settingsGood outcomeOf hexValue ones onesIn commanded groups sevens takeGroups takeSevens fits lengthOf skipOf entryOf turnsFrom indexFrom
-rows-hold = (refl, (refl, (refl, (refl, (refl, (refl, (refl, (refl, (refl, (refl, (refl, (refl, (refl, (refl, (refl, (refl, ((ones-by 32 2147418111, ones-by 24 16777214), (refl, (refl, (refl, ((refl, refl), (refl, (refl, (refl, (refl, tt)))))))))))))))))))))))))
+unfolding rows same hexDigit hexOf noneOf bodyByte bodyBytes xorFrom xorOf endForm lineForm endGives lineRefusal isDigit digitsFrom
+    digitsOf withinOf joinedOf angleOf latitudeOf longitudeOf letteredOf sidedOf pairAt leapYear daysIn isDate dateAt fullYear dateSix
+    minus bareOf zoneOf zoneAt zoneTwo bind lookUp knownOf commaFree addressOf onto fieldsOf fixedOf maybeOf before cutRest cutLines
+    readFrom readLines readBy answerBy faultBy fieldsFor nearOf firstWrong firstOf entryAt entryFrom entriesOf gsvRow gsvWith gsvOf
+    readBody readLine linesFor entriesAt sameTalker inPlace follows numbered repeats gsvRule rule ended groupOf joinFields hexFrom
+    hexDigitsOf printHex satellitesOf satellitesForm isPortMask emptyWrong outside rangeWrong signedWrong portWrong pirsrRow pirsaRow
+    portGood settingsGood outcomeOf hexValue ones onesIn commanded groups sevens takeGroups takeSevens fits lengthOf skipOf entryOf
+    turnsFrom indexFrom
+rows-hold = (
+  refl,
+  (
+    refl,
+    (
+      refl,
+      (
+        refl,
+        (
+          refl,
+          (
+            refl,
+            (
+              refl,
+              (
+                refl,
+                (
+                  refl,
+                  (
+                    refl,
+                    (
+                      refl,
+                      (
+                        refl,
+                        (
+                          refl,
+                          (
+                            refl,
+                            (
+                              refl,
+                              (
+                                refl,
+                                (
+                                  (ones-by 32 2147418111, ones-by 24 16777214),
+                                  (refl, (refl, (refl, ((refl, refl), (refl, (refl, (refl, (refl, tt)))))))),
+                                ),
+                              ),
+                            ),
+                          ),
+                        ),
+                      ),
+                    ),
+                  ),
+                ),
+              ),
+            ),
+          ),
+        ),
+      ),
+    ),
+  ),
+)
 
 -- A step that replies and alters nothing is not the step: row P10 leaves another mask than the one at start.
 pub step-alters : ((s : Settings) (p : ℕ) (l : List ℕ) (room : ℕ) → settingsAfter s (outcomeOf s p l) room ≡ s) → ⊥
-unfolding same hexDigit hexOf hexValue noneOf bodyByte bodyBytes xorFrom xorOf endForm lineForm endGives lineRefusal lookUp knownOf commaFree addressOf onto fieldsOf maybeOf nearOf readBy answerBy faultBy fieldsFor readBody readLine joinFields hexFrom hexDigitsOf printHex satellitesOf satellitesForm isPortMask emptyWrong outside rangeWrong signedWrong portWrong pirsrRow pirsaRow portGood settingsGood outcomeOf faultAt writtenOf
+unfolding same hexDigit hexOf hexValue noneOf bodyByte bodyBytes xorFrom xorOf endForm lineForm endGives lineRefusal lookUp knownOf
+    commaFree addressOf onto fieldsOf maybeOf nearOf readBy answerBy faultBy fieldsFor readBody readLine joinFields hexFrom hexDigitsOf
+    printHex satellitesOf satellitesForm isPortMask emptyWrong outside rangeWrong signedWrong portWrong pirsrRow pirsaRow portGood
+    settingsGood outcomeOf faultAt writtenOf
 step-alters h =
     let e : _≡_ {A = ℕ} 2147418111 4294967295 = ap (λ (s : Settings). s .gps) (h atStart 0 (ascii "$PIRSR,7FFEFFFF,FFFFFE,*17\r\n") 82) in
     omega (arith, e)

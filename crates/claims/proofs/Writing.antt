@@ -1,4 +1,5 @@
--- The claims about writing, each under a plain sentence. `Writes` is what every writer's contract says: what it answers, and every byte that
+-- The claims about writing, each under a plain sentence. `Writes` is what every writer's contract says: what it answers, and every byte
+-- that
 -- it leaves.
 use Prim.Native.Nat.{ℕ, _≤_}
 use mathlib.Core.Path.{_≡_, refl, sym, ap, _∙_}
@@ -61,7 +62,8 @@ module _ {fault : Written} {body out : List ℕ} {answer : Written} {left : List
   unfolding leftOf
   refusal-leaves h = w .leaves ∙ go (eqb (writtenOf fault body (length out) .no) 0) refl
     where
-      go : (t : Bool) → eqb (writtenOf fault body (length out) .no) 0 ≡ t → pick t (asLine body ++ drop (length (asLine body)) out) out ≡ out
+      go : (t : Bool) → eqb (writtenOf fault body (length out) .no) 0 ≡ t
+          → pick t (asLine body ++ drop (length (asLine body)) out) out ≡ out
       go true e = absurd (h (ap (λ (x : Written). x .no) (w .answers) ∙ eqb-true (writtenOf fault body (length out) .no) 0 e))
       go false e = refl
 
@@ -75,15 +77,19 @@ module _ {fault : Written} {body out : List ℕ} {answer : Written} {left : List
 
   pub success : answer .no ≡ 0 → Done
   unfolding writtenOf leftOf
-  success h = go (eqb (fault .no) 0) (ltb 82 (length (asLine body))) (ltb (length out) (length (asLine body))) refl refl refl (w .answers) (w .leaves)
+  success h = go (eqb (fault .no) 0) (ltb 82 (length (asLine body))) (ltb (length out) (length (asLine body))) refl refl refl
+      (w .answers) (w .leaves)
     where
       go : (a b c : Bool) → eqb (fault .no) 0 ≡ a → ltb 82 (length (asLine body)) ≡ b → ltb (length out) (length (asLine body)) ≡ c
           → answer ≡ pick a (pick b (refused 1 1 0) (pick c (refused 8 1 0) (wrote (length (asLine body))))) fault
-          → left ≡ pick (eqb (pick a (pick b (refused 1 1 0) (pick c (refused 8 1 0) (wrote (length (asLine body))))) fault .no) 0) (asLine body ++ drop (length (asLine body)) out) out
+          → left ≡ pick (eqb (pick a (pick b (refused 1 1 0) (pick c (refused 8 1 0) (wrote (length (asLine body))))) fault .no) 0)
+          (asLine body ++ drop (length (asLine body)) out) out
           → Done
       go false b c p q s i j = absurd (eqb-false (fault .no) 0 p (sym (ap (λ (x : Written). x .no) i) ∙ h))
-      go true true c p q s i j = let z : _≡_ {A = ℕ} 1 0 = sym (ap (λ (x : Written). x .no) i) ∙ h in let y : ⊥ = omega (arith, z) in absurd y
-      go true false true p q s i j = let z : _≡_ {A = ℕ} 8 0 = sym (ap (λ (x : Written). x .no) i) ∙ h in let y : ⊥ = omega (arith, z) in absurd y
+      go true true c p q s i j = let z : _≡_ {A = ℕ} 1 0 = sym (ap (λ (x : Written). x .no) i) ∙ h in let y : ⊥ = omega (arith, z) in
+          absurd y
+      go true false true p q s i j = let z : _≡_ {A = ℕ} 8 0 = sym (ap (λ (x : Written). x .no) i) ∙ h in
+          let y : ⊥ = omega (arith, z) in absurd y
       go true false false p q s i j =
           record {
             good = eqb-true (fault .no) 0 p;
@@ -95,10 +101,12 @@ module _ {fault : Written} {body out : List ℕ} {answer : Written} {left : List
 
   -- On success the first bytes of the output are the line, and the bytes past it stay.
   pub line-written : answer .no ≡ 0 → take (answer .length) left ≡ asLine body
-  line-written h = let d = success h in rw (d .long, d .bytes) (take-at (asLine body) (drop (length (asLine body)) out) (length (asLine body)) refl)
+  line-written h = let d = success h in
+      rw (d .long, d .bytes) (take-at (asLine body) (drop (length (asLine body)) out) (length (asLine body)) refl)
 
   pub rest-stays : answer .no ≡ 0 → drop (answer .length) left ≡ drop (answer .length) out
-  rest-stays h = let d = success h in rw (d .long, d .bytes) (drop-at (asLine body) (drop (length (asLine body)) out) (length (asLine body)) refl)
+  rest-stays h = let d = success h in
+      rw (d .long, d .bytes) (drop-at (asLine body) (drop (length (asLine body)) out) (length (asLine body)) refl)
 
 short : (body : List ℕ) → length (asLine body) ≤ 82 → length body ≤ 76
 short body h = omega (arith, line-length body, h)
@@ -116,7 +124,8 @@ pub read-passes : (l : List ℕ) → refusalOf (readLine l .sentence) .no ≡ 0 
 unfolding readLine
 read-passes l e = go (eqb (lineRefusal l) 0) refl e
   where
-    go : (t : Bool) → eqb (lineRefusal l) 0 ≡ t → refusalOf (pick t (readBody (bodyOf l)) (aloneOf (S.Refused (lineRefusal l) 0)) .sentence) .no ≡ 0 → lineRefusal l ≡ 0
+    go : (t : Bool) → eqb (lineRefusal l) 0 ≡ t
+        → refusalOf (pick t (readBody (bodyOf l)) (aloneOf (S.Refused (lineRefusal l) 0)) .sentence) .no ≡ 0 → lineRefusal l ≡ 0
     go true q i = eqb-true (lineRefusal l) 0 q
     go false q i = i
 
@@ -124,29 +133,37 @@ read-passes l e = go (eqb (lineRefusal l) 0) refl e
 -- record that it was given.
 pub gga-back : (t : Talker) (r : Gga) {out left : List ℕ} {answer : Written} → Writes (faultAt (ggaWrong r)) (ggaBody t r) out answer left
     → answer .no ≡ 0 → readLine (take (answer .length) left) ≡ aloneOf (S.Gga t r)
-gga-back t r w h = let d = success w h in rw (line-written w h) (N.gga .read-write t r (fault-zero (ggaWrong r) (d .good)) (short (ggaBody t r) (d .most)))
+gga-back t r w h = let d = success w h in
+    rw (line-written w h) (N.gga .read-write t r (fault-zero (ggaWrong r) (d .good)) (short (ggaBody t r) (d .most)))
 
 pub gll-back : (t : Talker) (r : Gll) {out left : List ℕ} {answer : Written} → Writes (faultAt (gllWrong r)) (gllBody t r) out answer left
     → answer .no ≡ 0 → readLine (take (answer .length) left) ≡ aloneOf (S.Gll t r)
-gll-back t r w h = let d = success w h in rw (line-written w h) (let good = fault-zero (gllWrong r) (d .good) in N.gll .read-write t r good (N.gll-fits t r good))
+gll-back t r w h = let d = success w h in rw (line-written w h) (let good = fault-zero (gllWrong r) (d .good) in
+    N.gll .read-write t r good (N.gll-fits t r good))
 
 pub rmc-back : (t : Talker) (r : Rmc) {out left : List ℕ} {answer : Written} → Writes (faultAt (rmcWrong r)) (rmcBody t r) out answer left
     → answer .no ≡ 0 → readLine (take (answer .length) left) ≡ aloneOf (S.Rmc t r)
-rmc-back t r w h = let d = success w h in rw (line-written w h) (N.rmc .read-write t r (fault-zero (rmcWrong r) (d .good)) (short (rmcBody t r) (d .most)))
+rmc-back t r w h = let d = success w h in
+    rw (line-written w h) (N.rmc .read-write t r (fault-zero (rmcWrong r) (d .good)) (short (rmcBody t r) (d .most)))
 
 pub vtg-back : (t : Talker) (r : Vtg) {out left : List ℕ} {answer : Written} → Writes (faultAt (vtgWrong r)) (vtgBody t r) out answer left
     → answer .no ≡ 0 → readLine (take (answer .length) left) ≡ aloneOf (S.Vtg t r)
-vtg-back t r w h = let d = success w h in rw (line-written w h) (let good = fault-zero (vtgWrong r) (d .good) in N.vtg .read-write t r good (N.vtg-fits t r good))
+vtg-back t r w h = let d = success w h in rw (line-written w h) (let good = fault-zero (vtgWrong r) (d .good) in
+    N.vtg .read-write t r good (N.vtg-fits t r good))
 
 pub zda-back : (t : Talker) (r : Zda) {out left : List ℕ} {answer : Written} → Writes (faultAt (zdaWrong r)) (zdaBody t r) out answer left
     → answer .no ≡ 0 → readLine (take (answer .length) left) ≡ aloneOf (S.Zda t r)
-zda-back t r w h = let d = success w h in rw (line-written w h) (let good = fault-zero (zdaWrong r) (d .good) in N.zda .read-write t r good (N.zda-fits t r good))
+zda-back t r w h = let d = success w h in rw (line-written w h) (let good = fault-zero (zdaWrong r) (d .good) in
+    N.zda .read-write t r good (N.zda-fits t r good))
 
-pub gsa-back : (t : Talker) (r : Gsa) → length (r .satellites) ≡ 12 → {out left : List ℕ} {answer : Written} → Writes (faultAt (gsaWrong r)) (gsaBody t r) out answer left
+pub gsa-back : (t : Talker) (r : Gsa) → length (r .satellites) ≡ 12 → {out left : List ℕ} {answer : Written}
+    → Writes (faultAt (gsaWrong r)) (gsaBody t r) out answer left
     → answer .no ≡ 0 → readLine (take (answer .length) left) ≡ gsaBeside t r
-gsa-back t r n w h = let d = success w h in rw (line-written w h) (TGsa.read-write t r n (fault-zero (gsaWrong r) (d .good)) (short (gsaBody t r) (d .most)))
+gsa-back t r n w h = let d = success w h in
+    rw (line-written w h) (TGsa.read-write t r n (fault-zero (gsaWrong r) (d .good)) (short (gsaBody t r) (d .most)))
 
-pub gsv-back : (t : Talker) (r : Gsv) → length (r .entries) ≡ 4 → {out left : List ℕ} {answer : Written} → Writes (gsvFault r) (gsvBody t r) out answer left
+pub gsv-back : (t : Talker) (r : Gsv) → length (r .entries) ≡ 4 → {out left : List ℕ} {answer : Written}
+    → Writes (gsvFault r) (gsvBody t r) out answer left
     → answer .no ≡ 0 → readLine (take (answer .length) left) ≡ TGsv.theGsv t r
 gsv-back t r n w h = let d = success w h in rw (line-written w h) (TGsv.read-write t r n (good-is r (d .good)))
 
@@ -178,7 +195,8 @@ pub pirea-back : (r : CodeTold) {out left : List ℕ} {answer : Written} → Wri
     → answer .no ≡ 0 → readLine (take (answer .length) left) ≡ aloneOf (S.Ea r)
 pirea-back r w h = let d = success w h in rw (line-written w h) (C.pirea .read-write r (fault-zero (pireaWrong r) (d .good)))
 
-pub pirer-back : {out left : List ℕ} {answer : Written} → Writes (faultAt 0) pirerBody out answer left → answer .no ≡ 0 → readLine (take (answer .length) left) ≡ aloneOf S.Er
+pub pirer-back : {out left : List ℕ} {answer : Written} → Writes (faultAt 0) pirerBody out answer left → answer .no ≡ 0
+    → readLine (take (answer .length) left) ≡ aloneOf S.Er
 pirer-back w h = rw (line-written w h) (C.pirer .read-write tt C.pirer-good)
 
 -- What was read can be written: it is in range, and its line fits.

@@ -94,7 +94,8 @@ module _ {A G R : Type 0} (refuse : ℕ → ℕ → A) (row : Row G R) (make : R
           record { many = eqb-true n (row .width) p; some = omega (arith, is, not-zero); is = is }
 
   module _ {usually : (ℕ → List ℕ) → Type 0} (p : Placed refuse row make usually) (a : Address) (n : ℕ)
-      (leads : (field : ℕ → List ℕ) → toldOf a n field ≡ told (readBy refuse row make n field)) (as-usual : (field : ℕ → List ℕ) → usual a field
+      (leads : (field : ℕ → List ℕ) → toldOf a n field ≡ told (readBy refuse row make n field)) (as-usual : (field : ℕ → List ℕ)
+      → usual a field
       → usually field) where
     five-of : (field : ℕ → List ℕ) (w : ℕ) → toldOf a n field ≡ refusal 5 w → Five a n field w
     five-of field w e =
@@ -139,7 +140,8 @@ gsv-five t n field w e = go (ltb 4 (entriesOf n)) refl
     go false q =
         let count = entriesOf n in
         let few = ltb-false 4 (entriesOf n) q in
-        five-of refused (gsvRow count) (gsvBeside t count) (λ (r : Reading). refusalOf (r .sentence)) (λ no at. refl) (λ r. refl) (Sat.gsv t count)
+        five-of refused (gsvRow count) (gsvBeside t count) (λ (r : Reading). refusalOf (r .sentence)) (λ no at. refl) (λ r. refl)
+        (Sat.gsv t count)
         (Standard t K.Gsv) n (λ f. ap (λ (r : Reading). refusalOf (r .sentence)) (gsv-row t n f few)) (λ f u. tt) field w e
 
 standard-five : (t : Talker) (k : Kind) (n : ℕ) (field : ℕ → List ℕ) (w : ℕ) → toldOf (Standard t k) n field ≡ refusal 5 w

@@ -52,7 +52,8 @@ abbrev miscounted : Reading
 miscounted = aloneOf (Refused 4 0)
 
 module _ (n : ℕ) (field : ℕ → List ℕ) (h : 19 < n) where
-  too-many : {A G R : Type 0} (refuse : ℕ → ℕ → A) (row : Row G R) (make : R → A) → row .width ≤ 19 → readBy refuse row make n field ≡ refuse
+  too-many : {A G R : Type 0} (refuse : ℕ → ℕ → A) (row : Row G R) (make : R → A) → row .width ≤ 19
+      → readBy refuse row make n field ≡ refuse
       4 0
   unfolding readBy
   too-many refuse row make w = rw (ne-eqb n (row .width) (λ e. omega (arith, w, h, e)))

@@ -87,7 +87,8 @@ module _ (t : Talker) (n : ℕ) (field : ℕ → List ℕ) where
   unfolding gsvOf gsvWith answerBy
   same-talker u e =
       let g = gsvRow (entriesOf n) .got field 0 in
-      go (ltb 4 (entriesOf n)) (eqb (gsvRow (entriesOf n) .wrong g 0 0) 0) (gsvRow (entriesOf n) .wrong g 0 0) (gsvRow (entriesOf n) .value g) e
+      go (ltb 4 (entriesOf n)) (eqb (gsvRow (entriesOf n) .wrong g 0 0) 0) (gsvRow (entriesOf n) .wrong g 0 0)
+      (gsvRow (entriesOf n) .value g) e
     where
       go : (a b : Bool) (w : ℕ) (v : Values) → pick a (refused 4 0) (pick b (gsvBeside u (entriesOf n) v) (refused 5 w)) .sentence ≡ S.Gsv t
           → u ≡ t

@@ -69,7 +69,8 @@ module _ (v : Gsv) (sound : Sound v) (es : List Entry) (n : ℕ) (h : length es 
       count-left : 4 - v .count + left ≡ 36 - length (es ++ usedOf v)
       count-left = omega (arith, h, room, sound .few, used-length, length-append es (usedOf v))
 
-  pub placed : (entries : List Entry) → entries ≡ padded es → set (set (set (set entries n (at 0)) (n + 1) (at 1)) (n + 2) (at 2)) (n + 3) (at 3) ≡ padded (es ++ usedOf v)
+  pub placed : (entries : List Entry) → entries ≡ padded es → set (set (set (set entries n (at 0)) (n + 1) (at 1)) (n + 2) (at 2))
+      (n + 3) (at 3) ≡ padded (es ++ usedOf v)
   placed entries e =
       ap (λ (l : List Entry). set (set (set (set l n (at 0)) (n + 1) (at 1)) (n + 2) (at 2)) (n + 3) (at 3)) (e ∙ opened)
       ∙ four-sets es blankEntry (replicate left blankEntry) (at 0) (at 1) (at 2) (at 3) n h

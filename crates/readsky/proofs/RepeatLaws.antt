@@ -57,7 +57,10 @@ module _ (v : Gsv) (four : length (v .entries) ≡ 4) (few : v .count ≤ 4) whe
     tests (suc zero) h a b d e = refl
     tests (suc (suc zero)) h a b d e = refl
     tests (suc (suc (suc zero))) h a b d e = refl
-    tests (suc (suc (suc (suc zero)))) h a b d e = ap (λ (x : Bool). numbered (a .number) es || (numbered (b .number) (es ++ (a ∷ [])) || (numbered (d .number) (es ++ (a ∷ []) ++ (b ∷ [])) || x))) (sym (or-none (numbered (e .number) (es ++ (a ∷ []) ++ (b ∷ []) ++ (d ∷ [])))))
+    tests (suc (suc (suc (suc zero)))) h a b d e = ap
+        (λ (x : Bool). numbered (a .number) es ||
+        (numbered (b .number) (es ++ (a ∷ [])) || (numbered (d .number) (es ++ (a ∷ []) ++ (b ∷ [])) || x)))
+        (sym (or-none (numbered (e .number) (es ++ (a ∷ []) ++ (b ∷ []) ++ (d ∷ [])))))
     tests (suc (suc (suc (suc (suc c))))) h a b d e = let z : ⊥ = omega arith in absurd z
 
     all-tests : ((used 0 && numbered (entry 0 .number) es)
@@ -65,7 +68,8 @@ module _ (v : Gsv) (four : length (v .entries) ≡ 4) (few : v .count ≤ 4) whe
         || ((used 2 && numbered (entry 2 .number) (es ++ part 0 ++ part 1))
         || (used 3 && numbered (entry 3 .number) (es ++ part 0 ++ part 1 ++ part 2)))))
         ≡ repeats es (usedOf v)
-    all-tests = tests (v .count) few (entry 0) (entry 1) (entry 2) (entry 3) ∙ ap (λ (l : List Entry). repeats es (take (v .count) l)) entries-four
+    all-tests = tests (v .count) few (entry 0) (entry 1) (entry 2) (entry 3)
+        ∙ ap (λ (l : List Entry). repeats es (take (v .count) l)) entries-four
 
     all-parts : es ++ part 0 ++ part 1 ++ part 2 ++ part 3 ≡ es ++ usedOf v
     all-parts =
@@ -92,7 +96,8 @@ module _ (v : Gsv) (sound : Sound v) where
   pub has-mark : (j : ℕ) (seen : List ℕ) → length seen ≡ 100 → HasMark (ltb j (v .count)) (getD (v .entries) j blankEntry .number) seen
   has-mark j seen h u = omega (arith, sound .numbers j u, h)
 
-  pub long : (j : ℕ) (seen : List ℕ) (b : Bool) (left : List ℕ) → Marked (ltb j (v .count)) (getD (v .entries) j blankEntry .number) seen b left
+  pub long : (j : ℕ) (seen : List ℕ) (b : Bool) (left : List ℕ)
+      → Marked (ltb j (v .count)) (getD (v .entries) j blankEntry .number) seen b left
       → length seen ≡ 100 → length left ≡ 100
   long j seen b left m h = marked-length (ltb j (v .count)) (getD (v .entries) j blankEntry .number) seen b left m ∙ h
 
@@ -102,7 +107,11 @@ module _ (v : Gsv) (sound : Sound v) where
   marked-one j es seen b left h m q =
       let e = getD (v .entries) j blankEntry in
       let one = one-mark (ltb j (v .count)) e es seen m (has-mark j seen h) in
-      record { finds = q .0 ∙ one .finds; marks = subst (λ (l : List ℕ). Marks (es ++ ifUsed (ltb j (v .count)) e) l) (sym (q .1)) (one .marks) }
+      record {
+        finds = q .0 ∙ one .finds;
+        marks = subst (λ (l : List ℕ). Marks (es ++ ifUsed (ltb j (v .count)) e) l) (sym (q .1))
+            (one .marks);
+      }
 
   module _ (s0 s1 s2 s3 s4 : List ℕ) (b0 b1 b2 b3 : Bool) (h : length s0 ≡ 100)
       (m0 : Marked (ltb 0 (v .count)) (getD (v .entries) 0 blankEntry .number) s0 b0 s1)

@@ -47,16 +47,20 @@ module _ (v : Gsv) (four : length (v .entries) ≡ 4) (good : Good v) where
   abbrev E : ℕ → ℕ → List After
   E j n = entryAfters (used v j) n (entryOf v j)
 
-  zeros : Zero (after 0 (outside 1 9 (v .lines)) ∷ after 1 (outside 1 9 (v .line)) ∷ after 2 (outside 0 99 (v .satellites)) ∷ (E 0 3 ++ (E 1 7 ++ (E 2 11 ++ E 3 15))))
+  zeros : Zero (after 0 (outside 1 9 (v .lines)) ∷ after 1 (outside 1 9 (v .line)) ∷ after 2 (outside 0 99 (v .satellites))
+      ∷ (E 0 3 ++ (E 1 7 ++ (E 2 11 ++ E 3 15))))
   unfolding gsvWrong
   zeros = all-zero _ (good .values)
 
   numbers : (j : ℕ) → ltb j (v .count) ≡ true → getD (v .entries) j blankEntry .number ≤ 99
   numbers zero u = number-in (used v 0) 3 (entryOf v 0) (zero-left (E 0 3) _ (zeros .1 .1 .1)) u
   numbers (suc zero) u = number-in (used v 1) 7 (entryOf v 1) (zero-left (E 1 7) _ (zero-right (E 0 3) _ (zeros .1 .1 .1))) u
-  numbers (suc (suc zero)) u = number-in (used v 2) 11 (entryOf v 2) (zero-left (E 2 11) _ (zero-right (E 1 7) _ (zero-right (E 0 3) _ (zeros .1 .1 .1)))) u
-  numbers (suc (suc (suc zero))) u = number-in (used v 3) 15 (entryOf v 3) (zero-right (E 2 11) _ (zero-right (E 1 7) _ (zero-right (E 0 3) _ (zeros .1 .1 .1)))) u
-  numbers (suc (suc (suc (suc j)))) u = let p = ltb-true (suc (suc (suc (suc j)))) (v .count) u in let f = good .few in let z : ⊥ = omega (arith, p, f) in absurd z
+  numbers (suc (suc zero)) u = number-in (used v 2) 11 (entryOf v 2)
+      (zero-left (E 2 11) _ (zero-right (E 1 7) _ (zero-right (E 0 3) _ (zeros .1 .1 .1)))) u
+  numbers (suc (suc (suc zero))) u = number-in (used v 3) 15 (entryOf v 3)
+      (zero-right (E 2 11) _ (zero-right (E 1 7) _ (zero-right (E 0 3) _ (zeros .1 .1 .1)))) u
+  numbers (suc (suc (suc (suc j)))) u = let p = ltb-true (suc (suc (suc (suc j)))) (v .count) u in let f = good .few in
+      let z : ⊥ = omega (arith, p, f) in absurd z
 
   -- Places that are not used are blank.
   blank-rest : (c : ℕ) → c ≤ 4 → (a b d e : Entry)
@@ -65,7 +69,8 @@ module _ (v : Gsv) (four : length (v .entries) ≡ 4) (good : Good v) where
   blank-rest zero h a b d e q =
       let q1 = and-right (isBlank a) _ q in
       let q2 = and-right (isBlank b) _ q1 in
-      four-are (blank-is a (and-left _ _ q)) (blank-is b (and-left _ _ q1)) (blank-is d (and-left _ _ q2)) (blank-is e (and-right (isBlank d) _ q2))
+      four-are (blank-is a (and-left _ _ q)) (blank-is b (and-left _ _ q1)) (blank-is d (and-left _ _ q2))
+      (blank-is e (and-right (isBlank d) _ q2))
   blank-rest (suc zero) h a b d e q =
       let q1 = and-right (isBlank b) _ q in
       four-are refl (blank-is b (and-left _ _ q)) (blank-is d (and-left _ _ q1)) (blank-is e (and-right (isBlank d) _ q1))

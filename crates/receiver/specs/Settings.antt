@@ -1,4 +1,5 @@
--- Settings: two ports (rate, protocol, mask), datum, zone, GPS mask, GLONASS mask, self-test code 0 to 255. At start: 4800, protocol 4, mask
+-- Settings: two ports (rate, protocol, mask), datum, zone, GPS mask, GLONASS mask, self-test code 0 to 255. At start: 4800, protocol 4,
+-- mask
 -- 007F on both; datum 0; zone 0; all satellites; code 0.
 use Prim.Native.Nat.{ℕ, zero, suc}
 use mathlib.Core.Bool.{Bool, true, _&&_}
@@ -33,12 +34,31 @@ portOf s zero = s .first
 portOf s (suc n) = s .second
 
 abbrev pub withPort : Settings → ℕ → Port → Settings
-withPort s zero p = record { first = p; second = s .second; datum = s .datum; zone = s .zone; gps = s .gps; glonass = s .glonass; code = s .code }
-withPort s (suc n) p = record { first = s .first; second = p; datum = s .datum; zone = s .zone; gps = s .gps; glonass = s .glonass; code = s .code }
+withPort s zero p = record {
+  first = p;
+  second = s .second;
+  datum = s .datum;
+  zone = s .zone;
+  gps = s .gps;
+  glonass = s .glonass;
+  code = s .code;
+}
+withPort s
+    (suc n) p = record {
+      first = s .first;
+      second = p;
+      datum = s .datum;
+      zone = s .zone;
+      gps = s .gps;
+      glonass = s .glonass;
+      code = s
+          .code;
+    }
 
 -- A setting in its range.
 unfoldable pub portGood : Port → Bool
-portGood p = eqb (outside rateLeast rateMost (p .rate)) 0 && (eqb (outside 0 protocolMost (p .protocol)) 0 && eqb (portWrong true (p .mask)) 0)
+portGood p = eqb (outside rateLeast rateMost (p .rate)) 0
+    && (eqb (outside 0 protocolMost (p .protocol)) 0 && eqb (portWrong true (p .mask)) 0)
 
 unfoldable pub settingsGood : Settings → Bool
 settingsGood s =

@@ -21,7 +21,8 @@ use Rattle.calendar.specs.Zone.{fourText, zoneTwo}
 use Rattle.masks.specs.Masks.{portMaskForm, printHex, satellitesForm, wholeForm}
 use Rattle.masks.specs.Rates.{codeForm, rateForm}
 use Rattle.kinds.specs.Kinds.{belowForm, exactForm, fixedForm, heightForm, letterForm, numberForm, timeForm, zoneFourForm}
-use Rattle.records.specs.Keep.{datedOf, keptIf, keptOf, kmhOf, knotsOf, neededInt, neededWrong, numberOf, placedOf, signedOf, zonedIf, zonedOf}
+use Rattle.records.specs.Keep.{datedOf, keptIf, keptOf, kmhOf, knotsOf, neededInt, neededWrong, numberOf, placedOf, signedOf, zonedIf}
+use Rattle.records.specs.Keep.{zonedOf}
 use Rattle.records.specs.declared.values.Date.{Date}
 use Rattle.records.specs.declared.values.Kmh.{Kmh}
 use Rattle.records.specs.declared.values.Knots.{Knots}
@@ -35,7 +36,8 @@ use Rattle.texts.specs.Texts.{dayField, ewField, heightField, hoursField, ifThe
 use Rattle.texts.specs.Texts.{maybeText, minutesField, monthField, nsField, numberField, sixField, variationField, variationSide, yearField}
 use Rattle.row.specs.Row.{Form, Row, one, measured}
 
--- A form of one field: at most how many bytes with its comma, what the field reads as, its value, whether that is outside its range, and its
+-- A form of one field: at most how many bytes with its comma, what the field reads as, its value, whether that is outside its range, and
+-- its
 -- text.
 abbrev pub single : {X : Type 0} → ℕ → (List ℕ → Got) → (Got → X) → (X → ℕ) → (X → List ℕ) → Form Got X
 single most read value fault text =

@@ -72,7 +72,8 @@ pub first-none : (a b c d : ℕ) → firstOf a b c d ≡ 0 → (a ≡ 0) × ((b 
 unfolding firstOf
 first-none a b c d e = go (eqb a 0) (eqb b 0) (eqb c 0) (eqb d 0) refl refl refl refl e
   where
-    go : (p q r s : Bool) → eqb a 0 ≡ p → eqb b 0 ≡ q → eqb c 0 ≡ r → eqb d 0 ≡ s → _≡_ {A = ℕ} (cond p (cond q (cond r (cond s 0 4) 3) 2) 1) 0
+    go : (p q r s : Bool) → eqb a 0 ≡ p → eqb b 0 ≡ q → eqb c 0 ≡ r → eqb d 0 ≡ s
+        → _≡_ {A = ℕ} (cond p (cond q (cond r (cond s 0 4) 3) 2) 1) 0
         → (a ≡ 0) × ((b ≡ 0) × ((c ≡ 0) × (d ≡ 0)))
     go true true true true p q r s i = (eqb-true a 0 p, (eqb-true b 0 q, (eqb-true c 0 r, eqb-true d 0 s)))
     go true true true false p q r s i = let z : ⊥ = omega (arith, i) in absurd z

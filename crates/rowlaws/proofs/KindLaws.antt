@@ -24,7 +24,8 @@ use Rattle.row.specs.Kind.{faultBy, fieldsFor, readBy}
 use Rattle.rowlaws.proofs.Laws.{bytes, Lawful, Tight}
 use Rattle.rowlaws.proofs.Trips.{body-long, line-back, read-in-range, read-shorter}
 
--- Of a standard kind, which answers A, beside other records where it has one of its own: what is written is read back as the same record and
+-- Of a standard kind, which answers A, beside other records where it has one of its own: what is written is read back as the same record
+-- and
 -- talker; and whatever holds of refusals and of records in range, whose texts are no longer than the fields were, holds of what is read.
 pub record Standard {A G R : Type 0} (refuse : ℕ → ℕ → A) (as-read : A → Reading) (name : String) (row : Row G R) (make : Talker → R → A)
     : Type 1 where
@@ -37,7 +38,8 @@ pub record Standard {A G R : Type 0} (refuse : ℕ → ℕ → A) (as-read : A �
 module _ {A G R : Type 0} (refuse : ℕ → ℕ → A) (as-read : A → Reading) (name : String) (row : Row G R) (make : Talker → R → A) where
   pub standard : Tight row → length (ascii name) ≡ 3 → Clean (ascii name) → 1 ≤ row .width → (address : Talker → Address)
       → ((t : Talker) → knownOf (talkerText t ++ ascii name) ≡ address t)
-      → ((t : Talker) (field : ℕ → List ℕ) → addressed (address t) (row .width) field ≡ as-read (readBy refuse row (make t) (row .width) field))
+      → ((t : Talker) (field : ℕ → List ℕ) → addressed (address t) (row .width) field ≡ as-read
+      (readBy refuse row (make t) (row .width) field))
       → Standard refuse as-read name row make
   standard l three clean some address known leads =
       record {

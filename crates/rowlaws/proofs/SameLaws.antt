@@ -1,4 +1,5 @@
--- One more law of a row: what is written of what was read is the same bytes. It stands apart from the others, since not every form keeps it.
+-- One more law of a row: what is written of what was read is the same bytes. It stands apart from the others, since not every form keeps
+-- it.
 use Prim.Native.Nat.{ℕ, zero, suc, _+_, _-_, _<_}
 use mathlib.Core.Path.{_≡_, refl, sym, ap, _∙_, subst}
 use mathlib.Core.List.{List, [], _∷_}

@@ -22,12 +22,12 @@ fourPlaces t count field =
         (
           satelliteTotal .got (λ k. field (2 + k)),
           (
-            entryForm (ltb 0 count) (field 4) (field 5) (field 6) (field 7),
+            entryForm (ltb 0 count) 4 5 6 7 field,
             (
-              entryForm (ltb 1 count) (field 8) (field 9) (field 10) (field 11),
+              entryForm (ltb 1 count) 8 9 10 11 field,
               (
-                entryForm (ltb 2 count) (field 12) (field 13) (field 14) (field 15),
-                entryForm (ltb 3 count) (field 16) (field 17) (field 18) (field 19),
+                entryForm (ltb 2 count) 12 13 14 15 field,
+                entryForm (ltb 3 count) 16 17 18 19 field,
               ),
             ),
           ),
@@ -35,7 +35,8 @@ fourPlaces t count field =
       ),
     )
 
-pub with-four : (t : Talker) (count : ℕ) (field : ℕ → List ℕ) → pick (ltb 4 count) (refused 4 0) (fourPlaces t count field) ≡ gsvWith t count
+pub with-four : (t : Talker) (count : ℕ) (field : ℕ → List ℕ)
+    → pick (ltb 4 count) (refused 4 0) (fourPlaces t count field) ≡ gsvWith t count
     field
 unfolding gsvWith gsvFrom gsvRow entryForm nearOf answerBy
 with-four t zero field = refl

@@ -91,7 +91,8 @@ abbrev pub satelliteTotal : Form Got ℕ
 satelliteTotal = exact 2 0 99
 
 unfoldable pub gsvRow : ℕ → Row Readings Values
-gsvRow count = one lineNumber ▷ one lineNumber ▷ one satelliteTotal ▷ entryRow count 0 ▷ entryRow count 1 ▷ entryRow count 2 ▷ entryRow count 3
+gsvRow count = one lineNumber ▷ one lineNumber ▷ one satelliteTotal ▷ entryRow count 0 ▷ entryRow count 1 ▷ entryRow count 2 ▷ entryRow
+    count 3
 
 abbrev pub gsvMade : ℕ → Values → Gsv
 gsvMade count v =
@@ -124,8 +125,8 @@ gsvOf t n field = gsvWith t (entriesOf n) field
 
 -- An entry that is used or not, of four fields; and what entries come to, each in its place among four, since one that is not used is never
 -- wrong.
-unfoldable pub entryForm : Bool → List ℕ → List ℕ → List ℕ → List ℕ → GotEntry
-entryForm on n e a s = entryIf on .got (λ k. getD ([] ∷ n ∷ e ∷ a ∷ s ∷ []) k [])
+unfoldable pub entryForm : Bool → ℕ → ℕ → ℕ → ℕ → (ℕ → List ℕ) → GotEntry
+entryForm on n e a s field = entryIf on .got (λ k. field (getD (0 ∷ n ∷ e ∷ a ∷ s ∷ []) k 0))
 
 unfoldable pub gsvFrom : Talker → ℕ → Readings → Reading
 gsvFrom t count g = answerBy refused (gsvRow 4) (gsvBeside t count) g

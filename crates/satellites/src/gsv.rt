@@ -8,7 +8,7 @@ use records::Sentence;
 use records::blank;
 use records::keep;
 ghost use mathlib.Core.Path.{_≡_};
-ghost use Rattle.fields.specs.Places.{fieldIn, fieldsBy};
+ghost use Rattle.fields.specs.Places.{fieldsBy};
 ghost use Rattle.satellites.specs.View.{firstOf, entryFrom, entryForm, entriesOf, gsvFrom, gsvOf};
 
 // A satellite that was read of four fields: which of them is wrong, counted from 1, or 0; blank where
@@ -71,7 +71,7 @@ fn entry_in(
     k3: usize,
     k4: usize,
 ) -> GotEntry
-    ensures { λ r. ⌜ r ≡ entryForm used (fieldIn (now (p .entry)) k1 (now (s .entry))) (fieldIn (now (p .entry)) k2 (now (s .entry))) (fieldIn (now (p .entry)) k3 (now (s .entry))) (fieldIn (now (p .entry)) k4 (now (s .entry))) ⌝ }
+    ensures { λ r. ⌜ r ≡ entryForm used k1 k2 k3 k4 (fieldsBy (now (p .entry)) (now (s .entry))) ⌝ }
 {
     if !used {
         return GotEntry {

@@ -43,7 +43,8 @@ needed-zone needed z e = rw e (go (z .there))
     go true = refl
     go false = refl
 
-pub kept-zone : (needed : Bool) (z : Zone) → needed ≡ z .there → signedWrong 839 (z .there) (z .minutes) ≡ 0 → zonedIf needed (theGotInt (z .there) (z .minutes)) ≡ z
+pub kept-zone : (needed : Bool) (z : Zone) → needed ≡ z .there → signedWrong 839 (z .there) (z .minutes) ≡ 0
+    → zonedIf needed (theGotInt (z .there) (z .minutes)) ≡ z
 kept-zone needed z e h = rw e (go (z .there) refl)
   where
     go : (t : Bool) → z .there ≡ t → zonedIf (z .there) (theGotInt (z .there) (z .minutes)) ≡ z
@@ -58,7 +59,8 @@ there-too n true i q = refl
 there-too true false i q = let z : ⊥ = omega arith in absurd z
 there-too false false i q = q
 
-needed-both : (needed : Bool) (w : ℕ) (there : Bool) → cond (eqb w 0) (cond (needed && not there) 1 0) w ≡ 0 → (w ≡ 0) × (needed ≡ true → there ≡ true)
+needed-both : (needed : Bool) (w : ℕ) (there : Bool) → cond (eqb w 0) (cond (needed && not there) 1 0) w ≡ 0 → (w ≡ 0)
+    × (needed ≡ true → there ≡ true)
 needed-both needed w there e = go (eqb w 0) refl e
   where
     go : (t : Bool) → eqb w 0 ≡ t → cond t (cond (needed && not there) 1 0) w ≡ 0 → (w ≡ 0) × (needed ≡ true → there ≡ true)

@@ -35,7 +35,8 @@ pub clean-clock : (v : ℕ) → Clean (clockText v)
 clean-clock v =
     clean-append (printFixed 2 (v / 360000)) _ (clean-fixed 2 (v / 360000))
     (clean-append (printFixed 2 (v / 6000 % 60)) _ (clean-fixed 2 (v / 6000 % 60))
-    (clean-append (printFixed 2 (v / 100 % 60)) _ (clean-fixed 2 (v / 100 % 60)) (point (printFixed 2 (v % 100)) (clean-fixed 2 (v % 100)))))
+    (clean-append (printFixed 2 (v / 100 % 60)) _ (clean-fixed 2 (v / 100 % 60))
+    (point (printFixed 2 (v % 100)) (clean-fixed 2 (v % 100)))))
 
 pub clean-plain : (n : ℕ) → Clean (plainText n)
 unfolding plainText
@@ -65,7 +66,8 @@ clean-height z = clean-append (signText z) (numberText (natAbs z)) (clean-sign z
 pub clean-angle : (w v : ℕ) → Clean (angleText w v)
 clean-angle w v =
     clean-append (printFixed w (v / 600000)) _ (clean-fixed w (v / 600000))
-    (clean-append (printFixed 2 (v / 10000 % 60)) _ (clean-fixed 2 (v / 10000 % 60)) (point (printFixed 4 (v % 10000)) (clean-fixed 4 (v % 10000))))
+    (clean-append (printFixed 2 (v / 10000 % 60)) _ (clean-fixed 2 (v / 10000 % 60))
+    (point (printFixed 4 (v % 10000)) (clean-fixed 4 (v % 10000))))
 
 pub clean-side : (plus minus : List ℕ) (z : ℤ) → Clean plus → Clean minus → Clean (sideText plus minus z)
 clean-side plus minus (pos n) c d = c
@@ -76,7 +78,8 @@ clean-letter set v c e = subst (λ (s : List ℕ). Clean s) (sym (letter-same se
 
 pub clean-six : (d m y : ℕ) → Clean (sixText d m y)
 clean-six d m y =
-    clean-append (printFixed 2 d) _ (clean-fixed 2 d) (clean-append (printFixed 2 m) (printFixed 2 (y % 100)) (clean-fixed 2 m) (clean-fixed 2 (y % 100)))
+    clean-append (printFixed 2 d) _ (clean-fixed 2 d) (clean-append (printFixed 2 m) (printFixed 2 (y % 100)) (clean-fixed 2 m)
+    (clean-fixed 2 (y % 100)))
 
 pub clean-hours : (z : ℤ) → Clean (hoursText z)
 clean-hours z = clean-append (signText z) (printFixed 2 (natAbs z / 60)) (clean-sign z) (clean-fixed 2 (natAbs z / 60))
@@ -84,7 +87,8 @@ clean-hours z = clean-append (signText z) (printFixed 2 (natAbs z / 60)) (clean-
 pub clean-zone : (z : ℤ) → Clean (fourText z)
 clean-zone z =
     clean-append (signText z) _ (clean-sign z)
-    (clean-append (printFixed 2 (natAbs z / 60)) (printFixed 2 (natAbs z % 60)) (clean-fixed 2 (natAbs z / 60)) (clean-fixed 2 (natAbs z % 60)))
+    (clean-append (printFixed 2 (natAbs z / 60)) (printFixed 2 (natAbs z % 60)) (clean-fixed 2 (natAbs z / 60))
+    (clean-fixed 2 (natAbs z % 60)))
 
 -- Lengths.
 abbrev pub total : List (List ℕ) → ℕ

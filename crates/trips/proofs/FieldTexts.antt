@@ -26,9 +26,13 @@ use Rattle.records.specs.declared.values.Place.{Place}
 use Rattle.records.specs.declared.values.Signed.{Signed}
 use Rattle.records.specs.declared.values.Zone.{Zone}
 use Rattle.ranges.specs.Ranges.{rangeWrong}
-use Rattle.texts.specs.Texts.{ifThere, maybeText, numberField, knotsField, kmhField, heightText, heightField, unitField, sideText, latField, nsField, lonField, ewField, variationField, variationSide, sixField, dayField, monthField, yearField, hoursField, minutesField}
+use Rattle.texts.specs.Texts.{ifThere, maybeText, numberField, knotsField, kmhField, heightText, heightField, unitField, sideText}
+use Rattle.texts.specs.Texts.{latField, nsField, lonField, ewField, variationField, variationSide, sixField, dayField, monthField}
+use Rattle.texts.specs.Texts.{yearField, hoursField, minutesField}
 use Rattle.trips.proofs.Clean.{Clean, clean-fixed, clean-hex}
-use Rattle.trips.proofs.CleanTexts.{clean-if, clean-clock, clean-plain, clean-number, clean-height, clean-angle, clean-side, clean-six, clean-hours, clean-zone, length-if, length-clock, length-angle, length-hours, length-zone, length-side, length-plain, length-number, length-below}
+use Rattle.trips.proofs.CleanTexts.{clean-if, clean-clock, clean-plain, clean-number, clean-height, clean-angle, clean-side}
+use Rattle.trips.proofs.CleanTexts.{clean-six, clean-hours, clean-zone, length-if, length-clock, length-angle, length-hours}
+use Rattle.trips.proofs.CleanTexts.{length-zone, length-side, length-plain, length-number, length-below}
 use Rattle.trips.proofs.Values.{inside}
 
 -- The sets of letters.
@@ -39,7 +43,10 @@ pub clean-status : Clean (ascii "AV")
 clean-status = ((lit< tt, lit< tt), ((lit< tt, lit< tt), tt))
 
 pub clean-mode : Clean (ascii "ADEMSN")
-clean-mode = ((lit< tt, lit< tt), ((lit< tt, lit< tt), ((lit< tt, lit< tt), ((lit< tt, lit< tt), ((lit< tt, lit< tt), ((lit< tt, lit< tt), tt))))))
+clean-mode = (
+  (lit< tt, lit< tt),
+  ((lit< tt, lit< tt), ((lit< tt, lit< tt), ((lit< tt, lit< tt), ((lit< tt, lit< tt), ((lit< tt, lit< tt), tt))))),
+)
 
 pub clean-selection : Clean (ascii "MA")
 clean-selection = ((lit< tt, lit< tt), ((lit< tt, lit< tt), tt))
@@ -78,16 +85,19 @@ pub field-lon : (p : Place) → Clean (lonField p)
 field-lon p = clean-if (p .there) (angleText 3 (natAbs (p .lon))) (clean-angle 3 (natAbs (p .lon)))
 
 pub field-ns : (p : Place) → Clean (nsField p)
-field-ns p = clean-if (p .there) (sideText (ascii "N") (ascii "S") (p .lat)) (clean-side (ascii "N") (ascii "S") (p .lat) ((lit< tt, lit< tt), tt) ((lit< tt, lit< tt), tt))
+field-ns p = clean-if (p .there) (sideText (ascii "N") (ascii "S") (p .lat))
+    (clean-side (ascii "N") (ascii "S") (p .lat) ((lit< tt, lit< tt), tt) ((lit< tt, lit< tt), tt))
 
 pub field-ew : (p : Place) → Clean (ewField p)
-field-ew p = clean-if (p .there) (sideText (ascii "E") (ascii "W") (p .lon)) (clean-side (ascii "E") (ascii "W") (p .lon) ((lit< tt, lit< tt), tt) ((lit< tt, lit< tt), tt))
+field-ew p = clean-if (p .there) (sideText (ascii "E") (ascii "W") (p .lon))
+    (clean-side (ascii "E") (ascii "W") (p .lon) ((lit< tt, lit< tt), tt) ((lit< tt, lit< tt), tt))
 
 pub field-variation : (n : Signed) → Clean (variationField n)
 field-variation n = clean-if (n .there) (numberText (natAbs (n .value))) (clean-number (natAbs (n .value)))
 
 pub field-side : (n : Signed) → Clean (variationSide n)
-field-side n = clean-if (n .there) (sideText (ascii "E") (ascii "W") (n .value)) (clean-side (ascii "E") (ascii "W") (n .value) ((lit< tt, lit< tt), tt) ((lit< tt, lit< tt), tt))
+field-side n = clean-if (n .there) (sideText (ascii "E") (ascii "W") (n .value))
+    (clean-side (ascii "E") (ascii "W") (n .value) ((lit< tt, lit< tt), tt) ((lit< tt, lit< tt), tt))
 
 pub field-six : (d : Date) → Clean (sixField d)
 field-six d = clean-if (d .there) (sixText (d .day) (d .month) (d .year)) (clean-six (d .day) (d .month) (d .year))
@@ -128,10 +138,12 @@ pub long-lon : (p : Place) → length (lonField p) ≤ 10
 long-lon p = length-if (p .there) (angleText 3 (natAbs (p .lon))) 10 (length-angle 3 (natAbs (p .lon)))
 
 pub long-ns : (p : Place) → length (nsField p) ≤ 1
-long-ns p = length-if (p .there) (sideText (ascii "N") (ascii "S") (p .lat)) 1 (length-side (ascii "N") (ascii "S") (p .lat) 1 (lit≤ tt) (lit≤ tt))
+long-ns p = length-if (p .there) (sideText (ascii "N") (ascii "S") (p .lat)) 1 (length-side (ascii "N") (ascii "S") (p .lat) 1 (lit≤ tt)
+    (lit≤ tt))
 
 pub long-ew : (p : Place) → length (ewField p) ≤ 1
-long-ew p = length-if (p .there) (sideText (ascii "E") (ascii "W") (p .lon)) 1 (length-side (ascii "E") (ascii "W") (p .lon) 1 (lit≤ tt) (lit≤ tt))
+long-ew p = length-if (p .there) (sideText (ascii "E") (ascii "W") (p .lon)) 1 (length-side (ascii "E") (ascii "W") (p .lon) 1 (lit≤ tt)
+    (lit≤ tt))
 
 pub long-unit : (there : Bool) (b : ℕ) → length (unitField there b) ≤ 1
 long-unit there b = length-if there (b ∷ []) 1 (lit≤ tt)
@@ -155,7 +167,8 @@ pub long-zone : (z : Zone) → length (ifThere (z .there) (fourText (z .minutes)
 long-zone z = length-if (z .there) (fourText (z .minutes)) 5 (length-zone (z .minutes))
 
 -- A missing value is an empty field; one that is there is in its range.
-ranged : (lo hi : ℕ) (there : Bool) (v n : ℕ) (text : ℕ → List ℕ) → rangeWrong lo hi there v ≡ 0 → (v ≤ hi → length (text v) ≤ n) → length (ifThere there (text v)) ≤ n
+ranged : (lo hi : ℕ) (there : Bool) (v n : ℕ) (text : ℕ → List ℕ) → rangeWrong lo hi there v ≡ 0 → (v ≤ hi → length (text v) ≤ n)
+    → length (ifThere there (text v)) ≤ n
 unfolding rangeWrong
 ranged lo hi true v n text e h = h (inside lo hi v e .1)
 ranged lo hi false v n text e h = omega arith

@@ -44,7 +44,8 @@ pub pirpr : Maker "PIRPR" pirprRow S.Pr
 unfolding pirprRow
 pirpr =
     maker "PIRPR" pirprRow S.Pr lawful-pirpr refl (lit≤ tt)
-    ((lit< tt, lit< tt), ((lit< tt, lit< tt), ((lit< tt, lit< tt), ((lit< tt, lit< tt), ((lit< tt, lit< tt), tt))))) (lit≤ tt) (A.Maker P.Pr)
+    ((lit< tt, lit< tt), ((lit< tt, lit< tt), ((lit< tt, lit< tt), ((lit< tt, lit< tt), ((lit< tt, lit< tt), tt))))) (lit≤ tt)
+    (A.Maker P.Pr)
     known-pirpr (λ field. refl)
 
 pub lawful-pirtr : Lawful pirtrRow
@@ -58,7 +59,8 @@ pub pirtr : Maker "PIRTR" pirtrRow S.Tr
 unfolding pirtrRow
 pirtr =
     maker "PIRTR" pirtrRow S.Tr lawful-pirtr refl (lit≤ tt)
-    ((lit< tt, lit< tt), ((lit< tt, lit< tt), ((lit< tt, lit< tt), ((lit< tt, lit< tt), ((lit< tt, lit< tt), tt))))) (lit≤ tt) (A.Maker P.Tr)
+    ((lit< tt, lit< tt), ((lit< tt, lit< tt), ((lit< tt, lit< tt), ((lit< tt, lit< tt), ((lit< tt, lit< tt), tt))))) (lit≤ tt)
+    (A.Maker P.Tr)
     known-pirtr (λ field. refl)
 
 pub lawful-pirsr : Lawful pirsrRow
@@ -72,7 +74,8 @@ pub pirsr : Maker "PIRSR" pirsrRow S.Sr
 unfolding pirsrRow
 pirsr =
     maker "PIRSR" pirsrRow S.Sr lawful-pirsr refl (lit≤ tt)
-    ((lit< tt, lit< tt), ((lit< tt, lit< tt), ((lit< tt, lit< tt), ((lit< tt, lit< tt), ((lit< tt, lit< tt), tt))))) (lit≤ tt) (A.Maker P.Sr)
+    ((lit< tt, lit< tt), ((lit< tt, lit< tt), ((lit< tt, lit< tt), ((lit< tt, lit< tt), ((lit< tt, lit< tt), tt))))) (lit≤ tt)
+    (A.Maker P.Sr)
     known-pirsr (λ field. refl)
 
 pub lawful-pirer : Lawful pirerRow
@@ -83,7 +86,8 @@ pub pirer : Maker "PIRER" pirerRow (λ v. S.Er)
 unfolding pirerRow
 pirer =
     maker "PIRER" pirerRow (λ v. S.Er) lawful-pirer refl (lit≤ tt)
-    ((lit< tt, lit< tt), ((lit< tt, lit< tt), ((lit< tt, lit< tt), ((lit< tt, lit< tt), ((lit< tt, lit< tt), tt))))) (lit≤ tt) (A.Maker P.Er)
+    ((lit< tt, lit< tt), ((lit< tt, lit< tt), ((lit< tt, lit< tt), ((lit< tt, lit< tt), ((lit< tt, lit< tt), tt))))) (lit≤ tt)
+    (A.Maker P.Er)
     known-pirer (λ field. refl)
 
 pub lawful-pirpa : Lawful pirpaRow
@@ -99,7 +103,8 @@ pub pirpa : Maker "PIRPA" pirpaRow S.Pa
 unfolding pirpaRow
 pirpa =
     maker "PIRPA" pirpaRow S.Pa lawful-pirpa refl (lit≤ tt)
-    ((lit< tt, lit< tt), ((lit< tt, lit< tt), ((lit< tt, lit< tt), ((lit< tt, lit< tt), ((lit< tt, lit< tt), tt))))) (lit≤ tt) (A.Maker P.Pa)
+    ((lit< tt, lit< tt), ((lit< tt, lit< tt), ((lit< tt, lit< tt), ((lit< tt, lit< tt), ((lit< tt, lit< tt), tt))))) (lit≤ tt)
+    (A.Maker P.Pa)
     known-pirpa (λ field. refl)
 
 pub lawful-pirta : Lawful pirtaRow
@@ -112,7 +117,8 @@ pub pirta : Maker "PIRTA" pirtaRow S.Ta
 unfolding pirtaRow
 pirta =
     maker "PIRTA" pirtaRow S.Ta lawful-pirta refl (lit≤ tt)
-    ((lit< tt, lit< tt), ((lit< tt, lit< tt), ((lit< tt, lit< tt), ((lit< tt, lit< tt), ((lit< tt, lit< tt), tt))))) (lit≤ tt) (A.Maker P.Ta)
+    ((lit< tt, lit< tt), ((lit< tt, lit< tt), ((lit< tt, lit< tt), ((lit< tt, lit< tt), ((lit< tt, lit< tt), tt))))) (lit≤ tt)
+    (A.Maker P.Ta)
     known-pirta (λ field. refl)
 
 pub lawful-pirsa : Lawful pirsaRow
@@ -126,7 +132,8 @@ pub pirsa : Maker "PIRSA" pirsaRow S.Sa
 unfolding pirsaRow
 pirsa =
     maker "PIRSA" pirsaRow S.Sa lawful-pirsa refl (lit≤ tt)
-    ((lit< tt, lit< tt), ((lit< tt, lit< tt), ((lit< tt, lit< tt), ((lit< tt, lit< tt), ((lit< tt, lit< tt), tt))))) (lit≤ tt) (A.Maker P.Sa)
+    ((lit< tt, lit< tt), ((lit< tt, lit< tt), ((lit< tt, lit< tt), ((lit< tt, lit< tt), ((lit< tt, lit< tt), tt))))) (lit≤ tt)
+    (A.Maker P.Sa)
     known-pirsa (λ field. refl)
 
 pub lawful-pirea : Lawful pireaRow
@@ -139,7 +146,8 @@ pub pirea : Maker "PIREA" pireaRow S.Ea
 unfolding pireaRow
 pirea =
     maker "PIREA" pireaRow S.Ea lawful-pirea refl (lit≤ tt)
-    ((lit< tt, lit< tt), ((lit< tt, lit< tt), ((lit< tt, lit< tt), ((lit< tt, lit< tt), ((lit< tt, lit< tt), tt))))) (lit≤ tt) (A.Maker P.Ea)
+    ((lit< tt, lit< tt), ((lit< tt, lit< tt), ((lit< tt, lit< tt), ((lit< tt, lit< tt), ((lit< tt, lit< tt), tt))))) (lit≤ tt)
+    (A.Maker P.Ea)
     known-pirea (λ field. refl)
 
 -- The only PIRER there is.

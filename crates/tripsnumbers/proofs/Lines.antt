@@ -78,8 +78,13 @@ place-fits p e =
 gga-fits : (r : Gga) → ggaWrong r ≡ 0 → GgaFits r
 unfolding faultBy ggaRow
 gga-fits r e =
-    let z0 = near-zero _ _ _ e in let z1 = near-zero _ _ _ (z0 .1) in let z2 = near-zero _ _ _ (z1 .1) in let z3 = near-zero _ _ _ (z2 .1) in let z4 = near-zero _ _ _ (z3 .1) in let z5 = near-zero _ _ _ (z4 .1) in let z6 = near-zero _ _ _ (z5 .1) in
-    (place-fits (r .place) (z1 .0), signed-fits 999999999 (r .altitude .there) (r .altitude .value) (lit< tt) (z5 .0), signed-fits 999999999 (r .geoid .there) (r .geoid .value) (lit< tt) (z6 .0))
+    let z0 = near-zero _ _ _ e in let z1 = near-zero _ _ _ (z0 .1) in let z2 = near-zero _ _ _ (z1 .1) in
+    let z3 = near-zero _ _ _ (z2 .1) in let z4 = near-zero _ _ _ (z3 .1) in let z5 = near-zero _ _ _ (z4 .1) in
+    let z6 = near-zero _ _ _ (z5 .1) in (
+      place-fits (r .place) (z1 .0),
+      signed-fits 999999999 (r .altitude .there) (r .altitude .value) (lit< tt) (z5 .0),
+      signed-fits 999999999 (r .geoid .there) (r .geoid .value) (lit< tt) (z6 .0),
+    )
 
 gll-fits : (r : Gll) → gllWrong r ≡ 0 → PlaceFits (r .place)
 unfolding faultBy gllRow
@@ -87,15 +92,20 @@ gll-fits r e = let z0 = near-zero _ _ _ e in place-fits (r .place) (z0 .0)
 
 rmc-fits : (r : Rmc) → rmcWrong r ≡ 0 → RmcFits r
 unfolding faultBy rmcRow
-rmc-fits r e = let z0 = near-zero _ _ _ e in let z1 = near-zero _ _ _ (z0 .1) in let z2 = near-zero _ _ _ (z1 .1) in let z3 = near-zero _ _ _ (z2 .1) in let z4 = near-zero _ _ _ (z3 .1) in let z5 = near-zero _ _ _ (z4 .1) in let z6 = near-zero _ _ _ (z5 .1) in (place-fits (r .place) (z2 .0), signed-fits 179999 (r .variation .there) (r .variation .value) (lit< tt) (z6 .0))
+rmc-fits r e = let z0 = near-zero _ _ _ e in let z1 = near-zero _ _ _ (z0 .1) in let z2 = near-zero _ _ _ (z1 .1) in
+    let z3 = near-zero _ _ _ (z2 .1) in let z4 = near-zero _ _ _ (z3 .1) in let z5 = near-zero _ _ _ (z4 .1) in
+    let z6 = near-zero _ _ _ (z5 .1) in
+    (place-fits (r .place) (z2 .0), signed-fits 179999 (r .variation .there) (r .variation .value) (lit< tt) (z6 .0))
 
 zda-fits : (r : Zda) → zdaWrong r ≡ 0 → SFits w32 (r .zone .minutes)
 unfolding faultBy zdaRow
-zda-fits r e = let z0 = near-zero _ _ _ e in let z1 = near-zero _ _ _ (z0 .1) in let z2 = near-zero _ _ _ (z1 .1) in signed-fits 839 (r .zone .there) (r .zone .minutes) (lit< tt) (z2 .0)
+zda-fits r e = let z0 = near-zero _ _ _ e in let z1 = near-zero _ _ _ (z0 .1) in let z2 = near-zero _ _ _ (z1 .1) in
+    signed-fits 839 (r .zone .there) (r .zone .minutes) (lit< tt) (z2 .0)
 
 pirtr-fits : (r : DatumAsked) → pirtrWrong r ≡ 0 → SFits w32 (r .zone .minutes)
 unfolding faultBy pirtrRow
-pirtr-fits r e = let z0 = near-zero _ _ _ e in let z1 = near-zero _ _ _ (z0 .1) in signed-fits 839 (r .zone .there) (r .zone .minutes) (lit< tt) (alike-parts (r .datum .there) (r .zone .there) _ (z1 .0) .1)
+pirtr-fits r e = let z0 = near-zero _ _ _ e in let z1 = near-zero _ _ _ (z0 .1) in signed-fits 839 (r .zone .there) (r .zone .minutes)
+    (lit< tt) (alike-parts (r .datum .there) (r .zone .there) _ (z1 .0) .1)
 
 pirta-fits : (r : DatumTold) → pirtaWrong r ≡ 0 → SFits w32 (r .zone)
 unfolding faultBy pirtaRow
@@ -111,24 +121,39 @@ refused-crosses n f h rest = absurd (h refl)
 module _ (n : ℕ) (field : ℕ → List ℕ) where
   standard-crosses : (t : Talker) (k : Kind) → Crosses (standardOf t k n field)
   unfolding Held
-  standard-crosses t K.Gga = N.gga .write-read t n field (λ (x : Sentence). Crosses (aloneOf x)) refused-crosses (λ r c w u h rest. back (S.Gga t r) blankGsa blankGsv rest (gga-fits r w))
-  standard-crosses t K.Gll = N.gll .write-read t n field (λ (x : Sentence). Crosses (aloneOf x)) refused-crosses (λ r c w u h rest. back (S.Gll t r) blankGsa blankGsv rest (gll-fits r w))
-  standard-crosses t K.Gsa = TGsa.write-read t n field (λ (x : Reading). Crosses x) refused-crosses (λ r e c w u h rest. back (S.Gsa t) r blankGsv rest e)
-  standard-crosses t K.Gsv = TGsv.write-read t field (λ (x : Reading). Crosses x) refused-crosses (λ r e g h rest. back (S.Gsv t) blankGsa r rest e) n
-  standard-crosses t K.Rmc = N.rmc .write-read t n field (λ (x : Sentence). Crosses (aloneOf x)) refused-crosses (λ r c w u h rest. back (S.Rmc t r) blankGsa blankGsv rest (rmc-fits r w))
-  standard-crosses t K.Vtg = N.vtg .write-read t n field (λ (x : Sentence). Crosses (aloneOf x)) refused-crosses (λ r c w u h rest. back (S.Vtg t r) blankGsa blankGsv rest tt)
-  standard-crosses t K.Zda = N.zda .write-read t n field (λ (x : Sentence). Crosses (aloneOf x)) refused-crosses (λ r c w u h rest. back (S.Zda t r) blankGsa blankGsv rest (zda-fits r w))
+  standard-crosses t K.Gga = N.gga .write-read t n field (λ (x : Sentence). Crosses (aloneOf x)) refused-crosses
+      (λ r c w u h rest. back (S.Gga t r) blankGsa blankGsv rest (gga-fits r w))
+  standard-crosses t K.Gll = N.gll .write-read t n field (λ (x : Sentence). Crosses (aloneOf x)) refused-crosses
+      (λ r c w u h rest. back (S.Gll t r) blankGsa blankGsv rest (gll-fits r w))
+  standard-crosses t K.Gsa = TGsa.write-read t n field (λ (x : Reading). Crosses x) refused-crosses
+      (λ r e c w u h rest. back (S.Gsa t) r blankGsv rest e)
+  standard-crosses t K.Gsv = TGsv.write-read t field (λ (x : Reading). Crosses x) refused-crosses
+      (λ r e g h rest. back (S.Gsv t) blankGsa r rest e) n
+  standard-crosses t K.Rmc = N.rmc .write-read t n field (λ (x : Sentence). Crosses (aloneOf x)) refused-crosses
+      (λ r c w u h rest. back (S.Rmc t r) blankGsa blankGsv rest (rmc-fits r w))
+  standard-crosses t K.Vtg = N.vtg .write-read t n field (λ (x : Sentence). Crosses (aloneOf x)) refused-crosses
+      (λ r c w u h rest. back (S.Vtg t r) blankGsa blankGsv rest tt)
+  standard-crosses t K.Zda = N.zda .write-read t n field (λ (x : Sentence). Crosses (aloneOf x)) refused-crosses
+      (λ r c w u h rest. back (S.Zda t r) blankGsa blankGsv rest (zda-fits r w))
 
   maker-crosses : (k : Pir) → Crosses (makerOf k n field)
   unfolding Held
-  maker-crosses P.Pr = C.pirpr .write-read n field (λ (x : Sentence). Crosses (aloneOf x)) refused-crosses (λ r c w h rest. back (S.Pr r) blankGsa blankGsv rest tt)
-  maker-crosses P.Tr = C.pirtr .write-read n field (λ (x : Sentence). Crosses (aloneOf x)) refused-crosses (λ r c w h rest. back (S.Tr r) blankGsa blankGsv rest (pirtr-fits r w))
-  maker-crosses P.Sr = C.pirsr .write-read n field (λ (x : Sentence). Crosses (aloneOf x)) refused-crosses (λ r c w h rest. back (S.Sr r) blankGsa blankGsv rest tt)
-  maker-crosses P.Er = C.pirer .write-read n field (λ (x : Sentence). Crosses (aloneOf x)) refused-crosses (λ v c w h rest. back S.Er blankGsa blankGsv rest tt)
-  maker-crosses P.Pa = C.pirpa .write-read n field (λ (x : Sentence). Crosses (aloneOf x)) refused-crosses (λ r c w h rest. back (S.Pa r) blankGsa blankGsv rest tt)
-  maker-crosses P.Ta = C.pirta .write-read n field (λ (x : Sentence). Crosses (aloneOf x)) refused-crosses (λ r c w h rest. back (S.Ta r) blankGsa blankGsv rest (pirta-fits r w))
-  maker-crosses P.Sa = C.pirsa .write-read n field (λ (x : Sentence). Crosses (aloneOf x)) refused-crosses (λ r c w h rest. back (S.Sa r) blankGsa blankGsv rest tt)
-  maker-crosses P.Ea = C.pirea .write-read n field (λ (x : Sentence). Crosses (aloneOf x)) refused-crosses (λ r c w h rest. back (S.Ea r) blankGsa blankGsv rest tt)
+  maker-crosses P.Pr = C.pirpr .write-read n field (λ (x : Sentence). Crosses (aloneOf x)) refused-crosses
+      (λ r c w h rest. back (S.Pr r) blankGsa blankGsv rest tt)
+  maker-crosses P.Tr = C.pirtr .write-read n field (λ (x : Sentence). Crosses (aloneOf x)) refused-crosses
+      (λ r c w h rest. back (S.Tr r) blankGsa blankGsv rest (pirtr-fits r w))
+  maker-crosses P.Sr = C.pirsr .write-read n field (λ (x : Sentence). Crosses (aloneOf x)) refused-crosses
+      (λ r c w h rest. back (S.Sr r) blankGsa blankGsv rest tt)
+  maker-crosses P.Er = C.pirer .write-read n field (λ (x : Sentence). Crosses (aloneOf x)) refused-crosses
+      (λ v c w h rest. back S.Er blankGsa blankGsv rest tt)
+  maker-crosses P.Pa = C.pirpa .write-read n field (λ (x : Sentence). Crosses (aloneOf x)) refused-crosses
+      (λ r c w h rest. back (S.Pa r) blankGsa blankGsv rest tt)
+  maker-crosses P.Ta = C.pirta .write-read n field (λ (x : Sentence). Crosses (aloneOf x)) refused-crosses
+      (λ r c w h rest. back (S.Ta r) blankGsa blankGsv rest (pirta-fits r w))
+  maker-crosses P.Sa = C.pirsa .write-read n field (λ (x : Sentence). Crosses (aloneOf x)) refused-crosses
+      (λ r c w h rest. back (S.Sa r) blankGsa blankGsv rest tt)
+  maker-crosses P.Ea = C.pirea .write-read n field (λ (x : Sentence). Crosses (aloneOf x)) refused-crosses
+      (λ r c w h rest. back (S.Ea r) blankGsa blankGsv rest tt)
 
   addressed-crosses : (a : Address) → Crosses (addressed a n field)
   addressed-crosses (Standard t k) = standard-crosses t k

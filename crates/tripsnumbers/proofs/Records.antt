@@ -1,4 +1,5 @@
--- The record at the numbers of a record is that record, kind by kind and whatever numbers come after: a mark says again whether its value is
+-- The record at the numbers of a record is that record, kind by kind and whatever numbers come after: a mark says again whether its value
+-- is
 -- there, and a signed value that fits 32 bits is again itself.
 use Prim.Native.Nat.{ℕ}
 use mathlib.Core.Path.{_≡_, refl}
@@ -27,8 +28,10 @@ use Rattle.records.specs.declared.Zda.{Zda}
 use Rattle.records.specs.declared.values.Place.{Place}
 use Rattle.records.specs.Blank.{noMaybe, blankEntry}
 use Rattle.slots.specs.Slots.{markOf, isThere}
-use Rattle.tonumbers.specs.Layout.{ggaNumbers, gllNumbers, gsaNumbers, gsvNumbers, rmcNumbers, vtgNumbers, zdaNumbers, pirprNumbers, pirtrNumbers, pirsrNumbers, pirpaNumbers, pirtaNumbers, pirsaNumbers, pireaNumbers}
-use Rattle.fromnumbers.specs.Back.{ggaAt, gllAt, gsaAt, gsvAt, rmcAt, vtgAt, zdaAt, pirprAt, pirtrAt, pirsrAt, pirpaAt, pirtaAt, pirsaAt, pireaAt}
+use Rattle.tonumbers.specs.Layout.{ggaNumbers, gllNumbers, gsaNumbers, gsvNumbers, rmcNumbers, vtgNumbers, zdaNumbers, pirprNumbers}
+use Rattle.tonumbers.specs.Layout.{pirtrNumbers, pirsrNumbers, pirpaNumbers, pirtaNumbers, pirsaNumbers, pireaNumbers}
+use Rattle.fromnumbers.specs.Back.{ggaAt, gllAt, gsaAt, gsvAt, rmcAt, vtgAt, zdaAt, pirprAt, pirtrAt, pirsrAt, pirpaAt, pirtaAt, pirsaAt}
+use Rattle.fromnumbers.specs.Back.{pireaAt}
 use Rattle.trips.proofs.Lists.{all-twelve, all-four}
 
 pub mark-back : (b : Bool) → isThere (markOf b) ≡ b
@@ -49,22 +52,86 @@ abbrev pub RmcFits : Rmc → Type 0
 RmcFits r = PlaceFits (r .place) × SFits w32 (r .variation .value)
 
 pub gga-back : (t : Talker) (r : Gga) (rest : List ℕ) → GgaFits r → ggaAt (ggaNumbers t r ++ rest) ≡ r
-gga-back t r rest f = rw (mark-back (r .time .there), mark-back (r .place .there), int-back (r .place .lat) (f .0 .0), int-back (r .place .lon) (f .0 .1), mark-back (r .satellites .there), mark-back (r .hdop .there), mark-back (r .altitude .there), int-back (r .altitude .value) (f .1), mark-back (r .geoid .there), int-back (r .geoid .value) (f .2), mark-back (r .age .there), mark-back (r .station .there))
+gga-back t r rest f = rw (
+  mark-back (r .time .there),
+  mark-back (r .place .there),
+  int-back (r .place .lat) (f .0 .0),
+  int-back (r .place .lon) (f .0 .1),
+  mark-back (r .satellites .there),
+  mark-back (r .hdop .there),
+  mark-back (r .altitude .there),
+  int-back (r .altitude .value) (f .1),
+  mark-back (r .geoid .there),
+  int-back (r .geoid .value) (f .2),
+  mark-back (r .age .there),
+  mark-back (r .station .there),
+)
 
 pub gll-back : (t : Talker) (r : Gll) (rest : List ℕ) → PlaceFits (r .place) → gllAt (gllNumbers t r ++ rest) ≡ r
-gll-back t r rest f = rw (mark-back (r .place .there), int-back (r .place .lat) (f .0), int-back (r .place .lon) (f .1), mark-back (r .time .there))
+gll-back t r rest f = rw (
+  mark-back (r .place .there),
+  int-back (r .place .lat) (f .0),
+  int-back (r .place .lon) (f .1),
+  mark-back (r .time .there),
+)
 
 pub gsa-back : (t : Talker) (r : Gsa) (rest : List ℕ) → length (r .satellites) ≡ 12 → gsaAt (gsaNumbers t r ++ rest) ≡ r
-gsa-back t r rest h = rw (mark-back (getD (r .satellites) 0 noMaybe .there), mark-back (getD (r .satellites) 1 noMaybe .there), mark-back (getD (r .satellites) 2 noMaybe .there), mark-back (getD (r .satellites) 3 noMaybe .there), mark-back (getD (r .satellites) 4 noMaybe .there), mark-back (getD (r .satellites) 5 noMaybe .there), mark-back (getD (r .satellites) 6 noMaybe .there), mark-back (getD (r .satellites) 7 noMaybe .there), mark-back (getD (r .satellites) 8 noMaybe .there), mark-back (getD (r .satellites) 9 noMaybe .there), mark-back (getD (r .satellites) 10 noMaybe .there), mark-back (getD (r .satellites) 11 noMaybe .there), mark-back (r .pdop .there), mark-back (r .hdop .there), mark-back (r .vdop .there), all-twelve noMaybe (r .satellites) h)
+gsa-back t r rest h = rw (
+  mark-back (getD (r .satellites) 0 noMaybe .there),
+  mark-back (getD (r .satellites) 1 noMaybe .there),
+  mark-back (getD (r .satellites) 2 noMaybe .there),
+  mark-back (getD (r .satellites) 3 noMaybe .there),
+  mark-back (getD (r .satellites) 4 noMaybe .there),
+  mark-back (getD (r .satellites) 5 noMaybe .there),
+  mark-back (getD (r .satellites) 6 noMaybe .there),
+  mark-back (getD (r .satellites) 7 noMaybe .there),
+  mark-back (getD (r .satellites) 8 noMaybe .there),
+  mark-back (getD (r .satellites) 9 noMaybe .there),
+  mark-back (getD (r .satellites) 10 noMaybe .there),
+  mark-back (getD (r .satellites) 11 noMaybe .there),
+  mark-back (r .pdop .there),
+  mark-back (r .hdop .there),
+  mark-back (r .vdop .there),
+  all-twelve noMaybe (r .satellites) h,
+)
 
 pub gsv-back : (t : Talker) (r : Gsv) (rest : List ℕ) → length (r .entries) ≡ 4 → gsvAt (gsvNumbers t r ++ rest) ≡ r
-gsv-back t r rest h = rw (mark-back (getD (r .entries) 0 blankEntry .elevation .there), mark-back (getD (r .entries) 0 blankEntry .azimuth .there), mark-back (getD (r .entries) 0 blankEntry .signal .there), mark-back (getD (r .entries) 1 blankEntry .elevation .there), mark-back (getD (r .entries) 1 blankEntry .azimuth .there), mark-back (getD (r .entries) 1 blankEntry .signal .there), mark-back (getD (r .entries) 2 blankEntry .elevation .there), mark-back (getD (r .entries) 2 blankEntry .azimuth .there), mark-back (getD (r .entries) 2 blankEntry .signal .there), mark-back (getD (r .entries) 3 blankEntry .elevation .there), mark-back (getD (r .entries) 3 blankEntry .azimuth .there), mark-back (getD (r .entries) 3 blankEntry .signal .there), all-four blankEntry (r .entries) h)
+gsv-back t r rest h = rw (
+  mark-back (getD (r .entries) 0 blankEntry .elevation .there),
+  mark-back (getD (r .entries) 0 blankEntry .azimuth .there),
+  mark-back (getD (r .entries) 0 blankEntry .signal .there),
+  mark-back (getD (r .entries) 1 blankEntry .elevation .there),
+  mark-back (getD (r .entries) 1 blankEntry .azimuth .there),
+  mark-back (getD (r .entries) 1 blankEntry .signal .there),
+  mark-back (getD (r .entries) 2 blankEntry .elevation .there),
+  mark-back (getD (r .entries) 2 blankEntry .azimuth .there),
+  mark-back (getD (r .entries) 2 blankEntry .signal .there),
+  mark-back (getD (r .entries) 3 blankEntry .elevation .there),
+  mark-back (getD (r .entries) 3 blankEntry .azimuth .there),
+  mark-back (getD (r .entries) 3 blankEntry .signal .there),
+  all-four blankEntry (r .entries) h,
+)
 
 pub rmc-back : (t : Talker) (r : Rmc) (rest : List ℕ) → RmcFits r → rmcAt (rmcNumbers t r ++ rest) ≡ r
-rmc-back t r rest f = rw (mark-back (r .time .there), mark-back (r .place .there), int-back (r .place .lat) (f .0 .0), int-back (r .place .lon) (f .0 .1), mark-back (r .speed .there), mark-back (r .course .there), mark-back (r .date .there), mark-back (r .variation .there), int-back (r .variation .value) (f .1))
+rmc-back t r rest f = rw (
+  mark-back (r .time .there),
+  mark-back (r .place .there),
+  int-back (r .place .lat) (f .0 .0),
+  int-back (r .place .lon) (f .0 .1),
+  mark-back (r .speed .there),
+  mark-back (r .course .there),
+  mark-back (r .date .there),
+  mark-back (r .variation .there),
+  int-back (r .variation .value) (f .1),
+)
 
 pub vtg-back : (t : Talker) (r : Vtg) (rest : List ℕ) → vtgAt (vtgNumbers t r ++ rest) ≡ r
-vtg-back t r rest = rw (mark-back (r .course .there), mark-back (r .magnetic .there), mark-back (r .knots .there), mark-back (r .kmh .there))
+vtg-back t r rest = rw (
+  mark-back (r .course .there),
+  mark-back (r .magnetic .there),
+  mark-back (r .knots .there),
+  mark-back (r .kmh .there),
+)
 
 pub zda-back : (t : Talker) (r : Zda) (rest : List ℕ) → SFits w32 (r .zone .minutes) → zdaAt (zdaNumbers t r ++ rest) ≡ r
 zda-back t r rest f = rw (mark-back (r .time .there), mark-back (r .date .there), mark-back (r .zone .there), int-back (r .zone .minutes) f)

@@ -21,7 +21,8 @@ use Rattle.trips.proofs.CleanTexts.{total}
 use Rattle.trips.proofs.FieldTexts.{clean-selection}
 use Rattle.trips.proofs.Known.{known-gsa}
 use Rattle.rowlaws.proofs.Laws.{_⊵_, bytes, Tight, tight-one}
-use Rattle.rowlaws.proofs.FormLaws.{lawful-exact, lawful-fixed, lawful-letter, lawful-number, short-exact, short-fixed, short-letter, short-number}
+use Rattle.rowlaws.proofs.FormLaws.{lawful-exact, lawful-fixed, lawful-letter, lawful-number, short-exact, short-fixed, short-letter}
+use Rattle.rowlaws.proofs.FormLaws.{short-number}
 use Rattle.rowlaws.proofs.KindLaws.{Standard, standard}
 use Rattle.trips.proofs.Lists.{all-twelve}
 

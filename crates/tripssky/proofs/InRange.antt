@@ -49,7 +49,8 @@ none-right true true e = e
 none-right true false e = refl
 none-right false b e = e
 
-pub once-append : (before es fs : List Entry) → repeats before es ≡ false → repeats (before ++ es) fs ≡ false → repeats before (es ++ fs) ≡ false
+pub once-append : (before es fs : List Entry) → repeats before es ≡ false → repeats (before ++ es) fs ≡ false
+    → repeats before (es ++ fs) ≡ false
 unfolding repeats
 once-append before [] fs p q = subst (λ (l : List Entry). repeats l fs ≡ false) (append-nil before) q
 once-append before (e ∷ es) fs p q =
@@ -68,7 +69,8 @@ pub once-front : (before es fs : List Entry) → repeats before (es ++ fs) ≡ f
 unfolding repeats
 once-front before [] fs p = refl
 once-front before (e ∷ es) fs p =
-    or-none (numbered (e .number) before) _ (none-left _ _ p) (once-front (before ++ (e ∷ [])) es fs (none-right (numbered (e .number) before) _ p))
+    or-none (numbered (e .number) before) _ (none-left _ _ p)
+    (once-front (before ++ (e ∷ [])) es fs (none-right (numbered (e .number) before) _ p))
 
 -- The entries of a table in range.
 pub record InRange (es : List Entry) : Type 0 where
@@ -113,7 +115,8 @@ none-entries : (i : ℕ) (before es : List Entry) → EachGood es → repeats be
 unfolding faultFrom repeats
 none-entries i before [] g o = refl
 none-entries i before (e ∷ es) g o =
-    rw (none-entry i before e (g .0) (none-left _ _ o)) (none-entries (i + 1) (before ++ (e ∷ [])) es (g .1) (none-right (numbered (e .number) before) _ o))
+    rw (none-entry i before e (g .0) (none-left _ _ o))
+    (none-entries (i + 1) (before ++ (e ∷ [])) es (g .1) (none-right (numbered (e .number) before) _ o))
 
 blank-all : (l : List Entry) → allBlank l ≡ true → l ≡ replicate (length l) blankEntry
 unfolding allBlank
@@ -170,7 +173,8 @@ module _ (r : Table) (places : length (r .entries) ≡ 36) (none : tableFault r 
 -- And back: the table of such entries has 36 places and no fault.
 module _ (es : List Entry) (s : InRange es) where
   pub table-places : length (tableOf es .entries) ≡ 36
-  table-places = length-append es (replicate (36 - length es) blankEntry) ∙ rw (length-replicate (36 - length es) blankEntry) (omega (arith, s .few))
+  table-places = length-append es (replicate (36 - length es) blankEntry) ∙ rw (length-replicate (36 - length es) blankEntry)
+      (omega (arith, s .few))
 
   pub table-good : tableFault (tableOf es) .no ≡ 0
   unfolding tableFault

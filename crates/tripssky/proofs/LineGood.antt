@@ -1,5 +1,6 @@
 -- One line of a group. The line of a table in range has four places and no fault: its used entries are the next four of the table, or those
--- that are left, and the other places are blank. And the other way round: of a record without a fault the used entries are in range, and its
+-- that are left, and the other places are blank. And the other way round: of a record without a fault the used entries are in range, and
+-- its
 -- four places are these, filled up with blank ones.
 use Prim.Native.Nat.{ℕ, zero, suc, _+_, _-_, _*_, _≤_}
 use mathlib.Core.Path.{_≡_, refl, sym, _∙_, ap, subst}
@@ -88,7 +89,12 @@ module _ (lines line satellites : ℕ) where
     of-good [] g = record { few = lit≤ tt; values = zero-all _ (a, (b, (c, tt))); blank = refl }
     of-good (e0 ∷ []) g = record { few = lit≤ tt; values = zero-all _ (a, (b, (c, all-in 3 (e0 ∷ []) g))); blank = refl }
     of-good (e0 ∷ e1 ∷ []) g = record { few = lit≤ tt; values = zero-all _ (a, (b, (c, all-in 3 (e0 ∷ e1 ∷ []) g))); blank = refl }
-    of-good (e0 ∷ e1 ∷ e2 ∷ []) g = record { few = lit≤ tt; values = zero-all _ (a, (b, (c, all-in 3 (e0 ∷ e1 ∷ e2 ∷ []) g))); blank = refl }
+    of-good (e0 ∷ e1 ∷ e2 ∷ []) g = record {
+      few = lit≤ tt;
+      values = zero-all _
+          (a, (b, (c, all-in 3 (e0 ∷ e1 ∷ e2 ∷ []) g)));
+      blank = refl;
+    }
     of-good (e0 ∷ e1 ∷ e2 ∷ e3 ∷ es) g =
         let first : EachGood (e0 ∷ e1 ∷ e2 ∷ e3 ∷ []) = (g .0, (g .1 .0, (g .1 .1 .0, (g .1 .1 .1 .0, tt)))) in
         record { few = lit≤ tt; values = zero-all _ (a, (b, (c, all-in 3 (e0 ∷ e1 ∷ e2 ∷ e3 ∷ []) first))); blank = refl }
@@ -109,7 +115,8 @@ module _ (lines line satellites : ℕ) where
     good-of zero g =
         let b = last-three (and-right (isBlank e0) _ (g .blank)) in
         (tt, rw (blank-is e0 (and-left _ _ (g .blank)), b .0, b .1 .0, b .1 .1))
-    good-of (suc zero) g = let b = last-three (g .blank) in (in-all 3 (e0 ∷ []) (all-zero _ (g .values) .1 .1 .1), rw (b .0, b .1 .0, b .1 .1))
+    good-of (suc zero) g = let b = last-three (g .blank) in
+        (in-all 3 (e0 ∷ []) (all-zero _ (g .values) .1 .1 .1), rw (b .0, b .1 .0, b .1 .1))
     good-of (suc (suc zero)) g = let b = last-two (g .blank) in (in-all 3 (e0 ∷ e1 ∷ []) (all-zero _ (g .values) .1 .1 .1), rw (b .0, b .1))
     good-of (suc (suc (suc zero))) g = (in-all 3 (e0 ∷ e1 ∷ e2 ∷ []) (all-zero _ (g .values) .1 .1 .1), rw (blank-is e3 (g .blank)))
     good-of (suc (suc (suc (suc zero)))) g = (in-all 3 four (all-zero _ (g .values) .1 .1 .1), refl)
@@ -118,7 +125,8 @@ module _ (lines line satellites : ℕ) where
 -- The used entries of a record without a fault are in range, its places are these and blank ones, and it is of at most nine lines.
 module _ (v : Gsv) (places : length (v .entries) ≡ 4) (g : Good v) where
   abbrev Told : List Entry → Type 0
-  Told l = Good (holding (v .lines) (v .line) (v .satellites) (v .count) l) → EachGood (take (v .count) l) × (l ≡ filled 4 (take (v .count) l))
+  Told l = Good (holding (v .lines) (v .line) (v .satellites) (v .count) l) → EachGood (take (v .count) l)
+      × (l ≡ filled 4 (take (v .count) l))
 
   entries-of : EachGood (usedOf v) × (v .entries ≡ filled 4 (usedOf v))
   entries-of =

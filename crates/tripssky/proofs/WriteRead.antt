@@ -1,4 +1,5 @@
--- What was read as a group can be written, and is written as the same bytes. Go through the lines: each that was taken adds its used entries,
+-- What was read as a group can be written, and is written as the same bytes. Go through the lines: each that was taken adds its used
+-- entries,
 -- in range and with numbers that were not there, and as many as line k must have. So at the end all entries are there, line k holds the
 -- entries that stand at its place among them, and it is the line that the writer makes of these.
 use Prim.Native.Nat.{ℕ, _+_, _-_, _*_, _≤_}
@@ -72,7 +73,8 @@ module _ (t : Talker) (n k : ℕ) (before : List Entry) (h : Held n k before) (l
       record {
         from = omega arith;
         few = h .few;
-        many = length-append before (usedOf v) ∙ ap₂ (λ (a b : ℕ). a + b) full added ∙ so-many n k (h .from) (starts n k (h .from) (line .no-later));
+        many = length-append before (usedOf v) ∙ ap₂ (λ (a b : ℕ). a + b) full added
+            ∙ so-many n k (h .from) (starts n k (h .from) (line .no-later));
         each = good-append before (usedOf v) (h .each) (used-good v (good .0) (good .1));
         once = once-append [] before (usedOf v) (h .once) (line .fresh);
       }
@@ -112,7 +114,8 @@ module _ (t : Talker) (n k : ℕ) (before : List Entry) (h : Held n k before) (l
           many = e .many;
           in-range = e .in-range;
           last = omega (arith, e .last);
-          lines = ap₂ (λ (x : List ℕ) (y : List (List ℕ)). x ∷ y) (ap (λ (r : Gsv). asLine (gsvBody t r)) line-same ∙ GsvSame.same-bytes l t (line .reads)) (e .lines);
+          lines = ap₂ (λ (x : List ℕ) (y : List (List ℕ)). x ∷ y) (ap (λ (r : Gsv). asLine (gsvBody t r)) line-same
+              ∙ GsvSame.same-bytes l t (line .reads)) (e .lines);
         }
 
 -- The lines behind line 1.
@@ -121,7 +124,8 @@ module _ (t : Talker) (es : List Entry) (u : Talker) (n : ℕ) where
   unfolding ended
   over k before = go (eqb (linesFor n + 1) k) refl
     where
-      go : (b : Bool) → eqb (linesFor n + 1) k ≡ b → pick b (whole u before) (refused 6 k 0) ≡ whole t es → (linesFor n + 1 ≡ k) × (u ≡ t) × (before ≡ es)
+      go : (b : Bool) → eqb (linesFor n + 1) k ≡ b → pick b (whole u before) (refused 6 k 0) ≡ whole t es → (linesFor n + 1 ≡ k)
+          × (u ≡ t) × (before ≡ es)
       go true q i = (eqb-true (linesFor n + 1) k q, cc, cc)
       go false q i = absurd (no-whole 6 k 0 t es i)
 
@@ -154,11 +158,19 @@ unfolding repeats
 held-none t n l line =
     let g = GsvSame.gsv-good l t (line .reads) in
     let nine = at-most-nine (readLine l .gsv) (g .0) (g .1) in
-    record { from = lit≤ tt; few = few-satellites n (subst (λ (m : ℕ). m ≤ 9) (line .lines) nine); many = omega arith; each = tt; once = refl }
+    record {
+      from = lit≤ tt;
+      few = few-satellites n
+          (subst (λ (m : ℕ). m ≤ 9) (line .lines) nine);
+      many = omega arith;
+      each = tt;
+      once = refl;
+    }
 
 -- All lines of a whole group.
 module _ (t : Talker) (es : List Entry) where
-  all-lines : (ls : List (List ℕ)) → answerFrom none 1 ls ≡ whole t es → InRange es × (linesFrom t (tableOf es) 1 (linesFor (length es)) ≡ ls)
+  all-lines : (ls : List (List ℕ)) → answerFrom none 1 ls ≡ whole t es → InRange es
+      × (linesFrom t (tableOf es) 1 (linesFor (length es)) ≡ ls)
   unfolding readFrom ended
   all-lines [] e = absurd (no-whole 6 1 0 t es e)
   all-lines (l ∷ ls) e =
@@ -175,7 +187,8 @@ module _ (t : Talker) (es : List Entry) where
       )
 
 -- What a whole answer says: the entries are in range, and the lines are those that the writer makes of them.
-pub told : (g : List ℕ) (t : Talker) (es : List Entry) → groupOf g ≡ whole t es → InRange es × (linesFrom t (tableOf es) 1 (linesFor (length es)) ≡ cutLines g)
+pub told : (g : List ℕ) (t : Talker) (es : List Entry) → groupOf g ≡ whole t es → InRange es
+    × (linesFrom t (tableOf es) 1 (linesFor (length es)) ≡ cutLines g)
 unfolding groupOf readLines
 told g t es e = all-lines t es (cutLines g) e
 

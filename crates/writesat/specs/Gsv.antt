@@ -3,14 +3,14 @@
 -- is 5 with line 0 and field 0, after the used ones.
 use Prim.Native.Nat.{ℕ, _+_}
 use mathlib.Core.List.{List, [], _∷_, _++_}
-use mathlib.Core.Bool.{Bool, true, false, _&&_, _||_}
+use mathlib.Core.Bool.{Bool, true, false, cond, _&&_, _||_}
 use lib.Dec.{eqb, ltb}
 use lib.ListN.{getD}
 use Rattle.address.specs.declared.Talker.{Talker}
 use Rattle.records.specs.declared.Entry.{Entry}
 use Rattle.records.specs.declared.Gsv.{Gsv}
 use Rattle.records.specs.Blank.{blankEntry, isBlank}
-use Rattle.records.specs.Wrong.{After, after, firstWrong}
+use Rattle.records.specs.Wrong.{After, after, firstWrong, nearOf}
 use Rattle.satellites.specs.View.{azimuth, elevation, entryIf, gsvRow, lineNumber, satelliteNumber, satelliteTotal, signal, Values}
 use Rattle.row.specs.Kind.{fieldsFor}
 use Rattle.sealing.specs.declared.Written.{Written}
@@ -33,6 +33,15 @@ entryAfters true n e =
     ∷ after (n + 3) (signal .fault (e .signal))
     ∷ []
 entryAfters false n e = []
+
+-- The first wrong field from an entry's on; rest is the first after it.
+abbrev pub firstIn : Bool → ℕ → Entry → ℕ → ℕ
+firstIn on n e rest =
+    cond on
+    (nearOf n (satelliteNumber .fault (e .number))
+    (nearOf (n + 1) (elevation .fault (e .elevation))
+    (nearOf (n + 2) (azimuth .fault (e .azimuth)) (nearOf (n + 3) (signal .fault (e .signal)) rest))))
+    rest
 
 -- The first value outside its range, by the number of its field, or 0.
 unfoldable pub gsvWrong : Gsv → ℕ

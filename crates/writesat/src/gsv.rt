@@ -5,20 +5,17 @@ use records::Gsv;
 use records::keep;
 use sealing::Written;
 ghost use mathlib.Core.Path.{_≡_};
-ghost use mathlib.Core.Bool.{cond};
-ghost use Prim.Native.Nat.{_≤_, _+_};
-ghost use Rattle.records.specs.Wrong.{nearOf};
-ghost use Rattle.ranges.specs.Ranges.{outside, rangeWrong};
+ghost use Prim.Native.Nat.{_≤_};
 ghost use Rattle.put.specs.Wrote.{held, Puts, PutsFields};
 ghost use Rattle.sealing.specs.Written.{Writes};
-ghost use Rattle.writesat.specs.Gsv.{restBlank, gsvWrong, gsvFault, entryFields, gsvFields, gsvBody};
+ghost use Rattle.writesat.specs.Gsv.{restBlank, firstIn, gsvWrong, gsvFault, entryFields, gsvFields, gsvBody};
 ghost use Rattle.records.specs.Blank.{isMissing, isBlank};
 
 // The first wrong field from an entry's on, whose first field stands after `n` others; `rest` is the first
 // after it, and so it is where the entry is not used.
 pub fn entry_wrong(used: bool, e: Entry, n: u8, rest: usize) -> usize
     requires { ⌜ n ≤ 15 ⌝ }
-    ensures { λ w. ⌜ w ≡ cond used (nearOf n (outside 1 99 (e .number)) (nearOf (n + 1) (rangeWrong 0 90 (e .elevation .there) (e .elevation .value)) (nearOf (n + 2) (rangeWrong 0 359 (e .azimuth .there) (e .azimuth .value)) (nearOf (n + 3) (rangeWrong 0 99 (e .signal .there) (e .signal .value)) rest)))) rest ⌝ }
+    ensures { λ w. ⌜ w ≡ firstIn used n e rest ⌝ }
 {
     if !used {
         return rest;

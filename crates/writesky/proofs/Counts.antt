@@ -54,7 +54,8 @@ used-part l n a c f = take-take c 4 (drop a l) (f .four) ∙ go (ltb c 4) refl �
         ap (λ (m : ℕ). take m (drop a l)) q ∙ sym (take-take 4 (n - a) (drop a l) (omega (arith, h, f .most)))
 
 -- The four elements from place a on.
-pub four-at : {A : Type 0} (d : A) (l : List A) (a : ℕ) → a + 4 ≤ length l → getD l a d ∷ getD l (a + 1) d ∷ getD l (a + 2) d ∷ getD l (a + 3) d ∷ [] ≡ take 4 (drop a l)
+pub four-at : {A : Type 0} (d : A) (l : List A) (a : ℕ) → a + 4 ≤ length l → getD l a d ∷ getD l (a + 1) d ∷ getD l (a + 2) d
+    ∷ getD l (a + 3) d ∷ [] ≡ take 4 (drop a l)
 four-at d l a h =
     let n : length (take 4 (drop a l)) ≡ 4 = length-take-le 4 (drop a l) (omega (arith, h, length-drop a l)) in
     rw (at 0 (lit< tt), at 1 (lit< tt), at 2 (lit< tt), at 3 (lit< tt), add-zero a) at (all-four d (take 4 (drop a l)) n)

@@ -51,9 +51,12 @@ pub wrong-few : (e : Entry) → entryWrong e ≤ 4
 unfolding entryWrong firstWrong
 wrong-few e =
     near-few 0 (outside 1 99 (e .number)) _ 4 (omega (arith, outside-one 1 99 (e .number)))
-    (near-few 1 (rangeWrong 0 90 (e .elevation .there) (e .elevation .value)) _ 4 (omega (arith, range-one 0 90 (e .elevation .there) (e .elevation .value)))
-    (near-few 2 (rangeWrong 0 359 (e .azimuth .there) (e .azimuth .value)) _ 4 (omega (arith, range-one 0 359 (e .azimuth .there) (e .azimuth .value)))
-    (near-few 3 (rangeWrong 0 99 (e .signal .there) (e .signal .value)) 0 4 (omega (arith, range-one 0 99 (e .signal .there) (e .signal .value))) (omega arith))))
+    (near-few 1 (rangeWrong 0 90 (e .elevation .there) (e .elevation .value)) _ 4
+    (omega (arith, range-one 0 90 (e .elevation .there) (e .elevation .value)))
+    (near-few 2 (rangeWrong 0 359 (e .azimuth .there) (e .azimuth .value)) _ 4
+    (omega (arith, range-one 0 359 (e .azimuth .there) (e .azimuth .value)))
+    (near-few 3 (rangeWrong 0 99 (e .signal .there) (e .signal .value)) 0 4
+    (omega (arith, range-one 0 99 (e .signal .there) (e .signal .value))) (omega arith))))
 
 pub number-low : (e : Entry) (w : ℕ) → w ≡ entryWrong e → w ≡ 0 → e .number < 100
 unfolding entryWrong
@@ -82,16 +85,19 @@ module _ (i : ℕ) (e : Entry) (seen : List ℕ) {w : ℕ} (p : w ≡ entryWrong
     marked : (before : List Entry) → Marks before seen → One true e before (hadIf true (e .number) seen) (markedIf true (e .number) seen)
     marked before m = one-mark true e before seen m (λ t. low)
 
-    pub look-seen : {a : Written} {had : Bool} {left : List ℕ} → had ≡ hadIf true (e .number) seen → left ≡ markedIf true (e .number) seen → had ≡ true → a ≡ refused 7 (i / 4 + 1) 0 → Looks i e seen a left
+    pub look-seen : {a : Written} {had : Bool} {left : List ℕ} → had ≡ hadIf true (e .number) seen
+        → left ≡ markedIf true (e .number) seen → had ≡ true → a ≡ refused 7 (i / 4 + 1) 0 → Looks i e seen a left
     unfolding entryFault
     look-seen f l h q =
         record {
           long = kept l;
           answers = λ before m. q ∙ rw (eq-eqb (entryWrong e) 0 (sym p ∙ z), sym (marked before m .finds) ∙ sym f ∙ h);
-          marks = λ before m n. let u : _≡_ {A = ℕ} 7 0 = sym (ap (λ (b : Written). b .no) q) ∙ n in let v : ⊥ = omega (arith, u) in absurd v;
+          marks = λ before m n. let u : _≡_ {A = ℕ} 7 0 = sym (ap (λ (b : Written). b .no) q) ∙ n in let v : ⊥ = omega (arith, u) in
+              absurd v;
         }
 
-    pub look-good : {a : Written} {had : Bool} {left : List ℕ} → had ≡ hadIf true (e .number) seen → left ≡ markedIf true (e .number) seen → had ≡ false → a ≡ wrote 0 → Looks i e seen a left
+    pub look-good : {a : Written} {had : Bool} {left : List ℕ} → had ≡ hadIf true (e .number) seen
+        → left ≡ markedIf true (e .number) seen → had ≡ false → a ≡ wrote 0 → Looks i e seen a left
     unfolding entryFault
     look-good f l h q =
         record {
@@ -101,8 +107,10 @@ module _ (i : ℕ) (e : Entry) (seen : List ℕ) {w : ℕ} (p : w ≡ entryWrong
         }
 
 -- The entries from place i on.
-module _ (es : List Entry) (n i : ℕ) (h : i < n) (long : n ≤ length es) (d : Entry) {a : Written} (q : a ≡ entryFault i (take i es) (getD es i d)) where
-  first : faultFrom i (take i es) (drop i (take n es)) ≡ orElse a (faultFrom (i + 1) (take i es ++ (getD es i d ∷ [])) (drop (suc i) (take n es)))
+module _ (es : List Entry) (n i : ℕ) (h : i < n) (long : n ≤ length es) (d : Entry) {a : Written}
+    (q : a ≡ entryFault i (take i es) (getD es i d)) where
+  first : faultFrom i (take i es) (drop i (take n es)) ≡ orElse a
+      (faultFrom (i + 1) (take i es ++ (getD es i d ∷ [])) (drop (suc i) (take n es)))
   unfolding faultFrom
   first =
       rw (drop-cons (take n es) i d (omega (arith, h, length-take-le n es long)), getD-take n es i d h, q)
@@ -114,7 +122,8 @@ module _ (es : List Entry) (n i : ℕ) (h : i < n) (long : n ≤ length es) (d :
   fault-next z = first ∙ rw (eq-eqb (a .no) 0 z, add-one i, take-suc es i d (omega (arith, h, long)))
 
   pub marks-next : (left : List ℕ) → Marks (take i es ++ (getD es i d ∷ [])) left → Marks (take (i + 1) es) left
-  marks-next left m = subst (λ (l : List Entry). Marks l left) (sym (ap (λ (k : ℕ). take k es) (add-one i) ∙ take-suc es i d (omega (arith, h, long)))) m
+  marks-next left m = subst (λ (l : List Entry). Marks l left)
+      (sym (ap (λ (k : ℕ). take k es) (add-one i) ∙ take-suc es i d (omega (arith, h, long)))) m
 
 pub fault-end : (es before : List Entry) (n i : ℕ) → n ≤ i → faultFrom i before (drop i (take n es)) ≡ wrote 0
 unfolding faultFrom

@@ -32,7 +32,8 @@ or-else a b e = go (eqb (a .no) 0) refl e
     go false q i = absurd (eqb-false (a .no) 0 q i)
 
 -- An entry without a fault has good values and a number of its own.
-entry-good : (i : ℕ) (before : List Entry) (e : Entry) → entryFault i before e .no ≡ 0 → (entryWrong e ≡ 0) × (numbered (e .number) before ≡ false)
+entry-good : (i : ℕ) (before : List Entry) (e : Entry) → entryFault i before e .no ≡ 0 → (entryWrong e ≡ 0)
+    × (numbered (e .number) before ≡ false)
 unfolding entryFault
 entry-good i before e h = go (eqb (entryWrong e) 0) (numbered (e .number) before) refl refl h
   where
@@ -85,14 +86,18 @@ clear-is r long h = go (ltb 36 (r .count)) (allBlank (drop (r .count) (r .entrie
         let m = length-take-le (r .count) (r .entries) (omega (arith, n, long)) in
         record {
           few = n;
-          values = λ i j. sym (ap entryWrong (getD-take (r .count) (r .entries) i blankEntry j)) ∙ used-good 0 [] u f i (omega (arith, j, m));
+          values = λ i j. sym (ap entryWrong (getD-take (r .count) (r .entries) i blankEntry j))
+              ∙ used-good 0 [] u f i (omega (arith, j, m));
           once = used-once 0 [] u f;
-          blank = λ i j. let e : r .count + (i - r .count) ≡ i = omega (arith, j) in subst (λ (a : ℕ). isBlank (getD (r .entries) a blankEntry) ≡ true) e
-              (sym (ap isBlank (getD-drop (r .count) (r .entries) (i - r .count) blankEntry)) ∙ blank-good (drop (r .count) (r .entries)) q (i - r .count));
+          blank = λ i j. let e : r .count + (i - r .count) ≡ i = omega (arith, j) in
+              subst (λ (a : ℕ). isBlank (getD (r .entries) a blankEntry) ≡ true) e
+              (sym (ap isBlank (getD-drop (r .count) (r .entries) (i - r .count) blankEntry))
+              ∙ blank-good (drop (r .count) (r .entries)) q (i - r .count));
         }
 
 -- A used entry with good values, and one that is not used, are passed over.
-pass : (u : Bool) (n : ℕ) (e : Entry) (l : List After) → (u ≡ true → entryWrong e ≡ 0) → firstWrong l ≡ 0 → firstWrong (entryAfters u n e ++ l) ≡ 0
+pass : (u : Bool) (n : ℕ) (e : Entry) (l : List After) → (u ≡ true → entryWrong e ≡ 0) → firstWrong l ≡ 0
+    → firstWrong (entryAfters u n e ++ l) ≡ 0
 unfolding entryWrong
 pass true n e l g z =
     let w = all-zero (entryAfters true 0 e) (g refl) in
@@ -134,7 +139,8 @@ module _ (r : Table) (k : ℕ) where
     unfolding restBlank
     rest-good =
         and-both _ _ (or-blank _ _ (at-rest 0 (lit< tt)))
-        (and-both _ _ (or-blank _ _ (at-rest 1 (lit< tt))) (and-both _ _ (or-blank _ _ (at-rest 2 (lit< tt))) (or-blank _ _ (at-rest 3 (lit< tt)))))
+        (and-both _ _ (or-blank _ _ (at-rest 1 (lit< tt)))
+        (and-both _ _ (or-blank _ _ (at-rest 2 (lit< tt))) (or-blank _ _ (at-rest 3 (lit< tt)))))
 
     module _ (from : 1 ≤ k) (to : k ≤ linesFor (r .count)) where
       values-good : gsvWrong (lineAt r k) ≡ 0
@@ -159,8 +165,13 @@ module _ (r : Table) (k : ℕ) where
 
       clear-line : gsvFault (lineAt r k) .no ≡ 0
       unfolding gsvFault lineAt
-      clear-line = rw (le-ltb 4 (entriesAt (r .count) k) (entries-are (r .count) k .four), eq-eqb (gsvWrong (lineAt r k)) 0 values-good, rest-good)
+      clear-line = rw (
+        le-ltb 4 (entriesAt (r .count) k) (entries-are (r .count) k .four),
+        eq-eqb (gsvWrong (lineAt r k)) 0 values-good,
+        rest-good,
+      )
 
 -- Each line of a table without a fault is a record without a fault.
-pub line-good : (r : Table) → length (r .entries) ≡ 36 → tableFault r .no ≡ 0 → (k : ℕ) → 1 ≤ k → k ≤ linesFor (r .count) → gsvFault (lineAt r k) .no ≡ 0
+pub line-good : (r : Table) → length (r .entries) ≡ 36 → tableFault r .no ≡ 0 → (k : ℕ) → 1 ≤ k → k ≤ linesFor (r .count)
+    → gsvFault (lineAt r k) .no ≡ 0
 line-good r long good k from to = clear-line r k (clear-is r long good) from to

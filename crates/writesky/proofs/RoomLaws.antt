@@ -53,7 +53,8 @@ usedTotal u e = total (entryFields u e)
 
 -- The first c of four entries.
 four-sizes : (a b d e : Entry) (c : ℕ) → c ≤ 4
-    → usedTotal (ltb 0 c) a + (usedTotal (ltb 1 c) b + (usedTotal (ltb 2 c) d + usedTotal (ltb 3 c) e)) ≡ sizes (take c (a ∷ b ∷ d ∷ e ∷ []))
+    → usedTotal (ltb 0 c) a + (usedTotal (ltb 1 c) b + (usedTotal (ltb 2 c) d + usedTotal (ltb 3 c) e)) ≡ sizes
+    (take c (a ∷ b ∷ d ∷ e ∷ []))
 four-sizes a b d e zero h = refl
 four-sizes a b d e (suc zero) h = omega (arith, entry-total a)
 four-sizes a b d e (suc (suc zero)) h = omega (arith, entry-total a, entry-total b)
@@ -62,7 +63,8 @@ four-sizes a b d e (suc (suc (suc (suc zero)))) h = omega (arith, entry-total a,
 four-sizes a b d e (suc (suc (suc (suc (suc c))))) h = let z : ⊥ = omega arith in absurd z
 
 -- A line of a record with up to four entries.
-body-length : (t : Talker) (v : Gsv) → length (v .entries) ≡ 4 → v .count ≤ 4 → length (gsvBody t v) ≡ 12 + sizes (take (v .count) (v .entries))
+body-length : (t : Talker) (v : Gsv) → length (v .entries) ≡ 4 → v .count ≤ 4
+    → length (gsvBody t v) ≡ 12 + sizes (take (v .count) (v .entries))
 unfolding gsvFields fieldsFor gsvRow
 body-length t v four few =
     let e0 = entryFields (used v 0) (entryOf v 0) in
@@ -99,7 +101,8 @@ module _ (t : Talker) (r : Table) (long : length (r .entries) ≡ 36) where
   size-line k h =
       let q = drop (4 * (k - 1)) (r .entries) in
       let f = length-take-le 4 q (omega (arith, length-drop (4 * (k - 1)) (r .entries), long, h)) in
-      let b : length (gsvBody t (lineAt r k)) ≡ 12 + sizes (take (entriesAt (r .count) k) (take 4 q)) = body-length t (lineAt r k) f (entries-are (r .count) k .four) in
+      let b : length (gsvBody t (lineAt r k)) ≡ 12 + sizes (take (entriesAt (r .count) k) (take 4 q)) = body-length t (lineAt r k) f
+      (entries-are (r .count) k .four) in
       let s = ap sizes (used-part (r .entries) (r .count) (4 * (k - 1)) (entriesAt (r .count) k) (entries-are (r .count) k)) in
       omega (arith, line-length (gsvBody t (lineAt r k)), b, s)
 

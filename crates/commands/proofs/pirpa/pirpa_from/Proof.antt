@@ -8,11 +8,39 @@ use Rattle.commands.proofs.pirpa.pirpa_from.Tie as tie
 
 returns : tie.Need-returns
 unfolding answerBy pirpaRow
-returns c = rw (← c .before .before .before .before .before .before .needed .ensures, ← c .before .before .before .before .before .near .ensures, ← c .before .before .before .before .near2 .ensures, ← c .before .before .before .needed2 .ensures, ← c .before .before .near3 .ensures, ← c .before .near4 .ensures, ne-eqb _ _ (c .if1 .taken))
+returns c =
+    let b2 = c .before .before in
+    let b3 = b2 .before in
+    let b4 = b3 .before in
+    let b5 = b4 .before in
+    let b6 = b5 .before in
+    rw (
+      ← b6 .needed .ensures,
+      ← b5 .near .ensures,
+      ← b4 .near2 .ensures,
+      ← b3 .needed2 .ensures,
+      ← b2 .near3 .ensures,
+      ← c .before .near4 .ensures,
+      ne-eqb _ _ (c .if1 .taken),
+    )
 
 returns-2 : tie.Need-returns-2
 unfolding answerBy pirpaRow
-returns-2 c = rw (← c .before .before .before .before .before .before .needed .ensures, ← c .before .before .before .before .before .near .ensures, ← c .before .before .before .before .near2 .ensures, ← c .before .before .before .needed2 .ensures, ← c .before .before .near3 .ensures, ← c .before .near4 .ensures, eq-eqb _ _ (c .if1 .left))
+returns-2 c =
+    let b2 = c .before .before in
+    let b3 = b2 .before in
+    let b4 = b3 .before in
+    let b5 = b4 .before in
+    let b6 = b5 .before in
+    rw (
+      ← b6 .needed .ensures,
+      ← b5 .near .ensures,
+      ← b4 .near2 .ensures,
+      ← b3 .needed2 .ensures,
+      ← b2 .near3 .ensures,
+      ← c .before .near4 .ensures,
+      eq-eqb _ _ (c .if1 .left),
+    )
 
 pub pirpa-from-spec : {M : Type 1} → statement M
 pirpa-from-spec =

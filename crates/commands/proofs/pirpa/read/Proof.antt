@@ -13,7 +13,18 @@ returns c = rw (ne-eqb _ _ (c .if1 .taken))
 
 returns-2 : tie.Need-returns-2
 unfolding readBy pirpaRow
-returns-2 c = c .pirpa-from .ensures ∙ rw (eq-eqb _ _ (c .before .before .before .before .before .if1 .left), c .before .port-mask-in .ensures, c .before .before .exact-in2 .ensures, c .before .before .before .rate-in .ensures, c .before .before .before .before .exact-in .ensures)
+returns-2 c =
+    let b2 = c .before .before in
+    let b3 = b2 .before in
+    let b4 = b3 .before in
+    let b5 = b4 .before in
+    c .pirpa-from .ensures ∙ rw (
+      eq-eqb _ _ (b5 .if1 .left),
+      c .before .port-mask-in .ensures,
+      b2 .exact-in2 .ensures,
+      b3 .rate-in .ensures,
+      b4 .exact-in .ensures,
+    )
 
 pub read-spec : {M : Type 1} → statement M
 read-spec =

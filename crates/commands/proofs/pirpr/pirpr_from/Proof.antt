@@ -8,11 +8,47 @@ use Rattle.commands.proofs.pirpr.pirpr_from.Tie as tie
 
 returns : tie.Need-returns
 unfolding answerBy pirprRow
-returns c = rw (← c .before .before .before .before .before .before .needed .ensures, ← c .before .before .before .before .before .near .ensures, ← c .before .before .before .before .needed2 .ensures, ← c .before .before .before .near2 .ensures, ← c .before .before .near3 .ensures, ← c .before .near4 .ensures, ne-eqb _ _ (c .if1 .taken))
+returns c =
+    let b2 = c .before .before in
+    let b3 = b2 .before in
+    let b4 = b3 .before in
+    let b5 = b4 .before in
+    let b6 = b5 .before in
+    rw (
+      ← b6 .needed .ensures,
+      ← b5 .near .ensures,
+      ← b4 .needed2 .ensures,
+      ← b3 .near2 .ensures,
+      ← b2 .near3 .ensures,
+      ← c .before .near4 .ensures,
+      ne-eqb _ _ (c .if1 .taken),
+    )
 
 returns-2 : tie.Need-returns-2
 unfolding answerBy pirprRow
-returns-2 c = rw (← c .before .before .before .before .before .before .before .before .before .before .needed .ensures, ← c .before .before .before .before .before .before .before .before .before .near .ensures, ← c .before .before .before .before .before .before .before .before .needed2 .ensures, ← c .before .before .before .before .before .before .before .near2 .ensures, ← c .before .before .before .before .before .before .near3 .ensures, ← c .before .before .before .before .before .near4 .ensures, eq-eqb _ _ (c .before .before .before .before .if1 .left), c .before .before .before .kept .ensures, c .before .before .kept2 .ensures, c .before .kept-if .ensures, c .kept-if2 .ensures)
+returns-2 c =
+    let b2 = c .before .before in
+    let b3 = b2 .before in
+    let b4 = b3 .before in
+    let b5 = b4 .before in
+    let b6 = b5 .before in
+    let b7 = b6 .before in
+    let b8 = b7 .before in
+    let b9 = b8 .before in
+    let b10 = b9 .before in
+    rw (
+      ← b10 .needed .ensures,
+      ← b9 .near .ensures,
+      ← b8 .needed2 .ensures,
+      ← b7 .near2 .ensures,
+      ← b6 .near3 .ensures,
+      ← b5 .near4 .ensures,
+      eq-eqb _ _ (b4 .if1 .left),
+      b3 .kept .ensures,
+      b2 .kept2 .ensures,
+      c .before .kept-if .ensures,
+      c .kept-if2 .ensures,
+    )
 
 pub pirpr-from-spec : {M : Type 1} → statement M
 pirpr-from-spec =

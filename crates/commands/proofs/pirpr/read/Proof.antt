@@ -13,7 +13,18 @@ returns c = rw (ne-eqb _ _ (c .if1 .taken))
 
 returns-2 : tie.Need-returns-2
 unfolding readBy pirprRow
-returns-2 c = c .pirpr-from .ensures ∙ rw (eq-eqb _ _ (c .before .before .before .before .before .if1 .left), c .before .port-mask-in .ensures, c .before .before .fixed-in2 .ensures, c .before .before .before .rate-in .ensures, c .before .before .before .before .fixed-in .ensures)
+returns-2 c =
+    let b2 = c .before .before in
+    let b3 = b2 .before in
+    let b4 = b3 .before in
+    let b5 = b4 .before in
+    c .pirpr-from .ensures ∙ rw (
+      eq-eqb _ _ (b5 .if1 .left),
+      c .before .port-mask-in .ensures,
+      b2 .fixed-in2 .ensures,
+      b3 .rate-in .ensures,
+      b4 .fixed-in .ensures,
+    )
 
 pub read-spec : {M : Type 1} → statement M
 read-spec =

@@ -8,11 +8,17 @@ use Rattle.commands.proofs.pirsa.pirsa_from.Tie as tie
 
 returns : tie.Need-returns
 unfolding answerBy pirsaRow
-returns c = rw (← c .before .before .before .near .ensures, ← c .before .before .near2 .ensures, ← c .before .near3 .ensures, ne-eqb _ _ (c .if1 .taken))
+returns c =
+    let b2 = c .before .before in
+    let b3 = b2 .before in
+    rw (← b3 .near .ensures, ← b2 .near2 .ensures, ← c .before .near3 .ensures, ne-eqb _ _ (c .if1 .taken))
 
 returns-2 : tie.Need-returns-2
 unfolding answerBy pirsaRow
-returns-2 c = rw (← c .before .before .before .near .ensures, ← c .before .before .near2 .ensures, ← c .before .near3 .ensures, eq-eqb _ _ (c .if1 .left))
+returns-2 c =
+    let b2 = c .before .before in
+    let b3 = b2 .before in
+    rw (← b3 .near .ensures, ← b2 .near2 .ensures, ← c .before .near3 .ensures, eq-eqb _ _ (c .if1 .left))
 
 pub pirsa-from-spec : {M : Type 1} → statement M
 pirsa-from-spec =

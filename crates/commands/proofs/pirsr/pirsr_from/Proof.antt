@@ -8,11 +8,26 @@ use Rattle.commands.proofs.pirsr.pirsr_from.Tie as tie
 
 returns : tie.Need-returns
 unfolding answerBy pirsrRow
-returns c = rw (← c .before .before .before .near .ensures, ← c .before .before .near2 .ensures, ← c .before .near3 .ensures, ne-eqb _ _ (c .if1 .taken))
+returns c =
+    let b2 = c .before .before in
+    let b3 = b2 .before in
+    rw (← b3 .near .ensures, ← b2 .near2 .ensures, ← c .before .near3 .ensures, ne-eqb _ _ (c .if1 .taken))
 
 returns-2 : tie.Need-returns-2
 unfolding answerBy pirsrRow
-returns-2 c = rw (← c .before .before .before .before .before .near .ensures, ← c .before .before .before .before .near2 .ensures, ← c .before .before .before .near3 .ensures, eq-eqb _ _ (c .before .before .if1 .left), c .before .kept .ensures, c .kept2 .ensures)
+returns-2 c =
+    let b2 = c .before .before in
+    let b3 = b2 .before in
+    let b4 = b3 .before in
+    let b5 = b4 .before in
+    rw (
+      ← b5 .near .ensures,
+      ← b4 .near2 .ensures,
+      ← b3 .near3 .ensures,
+      eq-eqb _ _ (b2 .if1 .left),
+      c .before .kept .ensures,
+      c .kept2 .ensures,
+    )
 
 pub pirsr-from-spec : {M : Type 1} → statement M
 pirsr-from-spec =

@@ -13,7 +13,16 @@ returns c = rw (ne-eqb _ _ (c .if1 .taken))
 
 returns-2 : tie.Need-returns-2
 unfolding readBy pirsrRow
-returns-2 c = c .pirsr-from .ensures ∙ rw (eq-eqb _ _ (c .before .before .before .before .if1 .left), c .before .empty-in .ensures, c .before .before .satellites-in2 .ensures, c .before .before .before .satellites-in .ensures)
+returns-2 c =
+    let b2 = c .before .before in
+    let b3 = b2 .before in
+    let b4 = b3 .before in
+    c .pirsr-from .ensures ∙ rw (
+      eq-eqb _ _ (b4 .if1 .left),
+      c .before .empty-in .ensures,
+      b2 .satellites-in2 .ensures,
+      b3 .satellites-in .ensures,
+    )
 
 pub read-spec : {M : Type 1} → statement M
 read-spec =

@@ -10,11 +10,25 @@ use Rattle.commands.proofs.pirta.pirta_from.Tie as tie
 
 returns : tie.Need-returns
 unfolding answerBy pirtaRow
-returns c = rw (← c .before .before .before .needed-int .ensures, ← c .before .before .near .ensures, ← c .before .near2 .ensures, ne-eqb _ _ (c .if1 .taken))
+returns c =
+    let b2 = c .before .before in
+    let b3 = b2 .before in
+    rw (← b3 .needed-int .ensures, ← b2 .near .ensures, ← c .before .near2 .ensures, ne-eqb _ _ (c .if1 .taken))
 
 returns-2 : tie.Need-returns-2
 unfolding answerBy pirtaRow
-returns-2 c = rw (← c .before .before .before .before .needed-int .ensures, ← c .before .before .before .near .ensures, ← c .before .before .near2 .ensures, eq-eqb _ _ (c .before .if1 .left), toZ-ofZ {w = w32} {z = c .before .before .before .before .before .args .zone .value} (search needs))
+returns-2 c =
+    let b2 = c .before .before in
+    let b3 = b2 .before in
+    let b4 = b3 .before in
+    let b5 = b4 .before in
+    rw (
+      ← b4 .needed-int .ensures,
+      ← b3 .near .ensures,
+      ← b2 .near2 .ensures,
+      eq-eqb _ _ (c .before .if1 .left),
+      toZ-ofZ {w = w32} {z = b5 .args .zone .value} (search needs),
+    )
 
 pub pirta-from-spec : {M : Type 1} → statement M
 pirta-from-spec =

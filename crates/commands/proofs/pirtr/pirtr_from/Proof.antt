@@ -8,11 +8,26 @@ use Rattle.commands.proofs.pirtr.pirtr_from.Tie as tie
 
 returns : tie.Need-returns
 unfolding answerBy pirtrRow
-returns c = rw (← c .before .before .before .needed-int .ensures, ← c .before .before .near .ensures, ← c .before .near2 .ensures, ne-eqb _ _ (c .if1 .taken))
+returns c =
+    let b2 = c .before .before in
+    let b3 = b2 .before in
+    rw (← b3 .needed-int .ensures, ← b2 .near .ensures, ← c .before .near2 .ensures, ne-eqb _ _ (c .if1 .taken))
 
 returns-2 : tie.Need-returns-2
 unfolding answerBy pirtrRow
-returns-2 c = rw (← c .before .before .before .before .before .needed-int .ensures, ← c .before .before .before .before .near .ensures, ← c .before .before .before .near2 .ensures, eq-eqb _ _ (c .before .before .if1 .left), c .before .kept .ensures, c .zoned-if .ensures)
+returns-2 c =
+    let b2 = c .before .before in
+    let b3 = b2 .before in
+    let b4 = b3 .before in
+    let b5 = b4 .before in
+    rw (
+      ← b5 .needed-int .ensures,
+      ← b4 .near .ensures,
+      ← b3 .near2 .ensures,
+      eq-eqb _ _ (b2 .if1 .left),
+      c .before .kept .ensures,
+      c .zoned-if .ensures,
+    )
 
 pub pirtr-from-spec : {M : Type 1} → statement M
 pirtr-from-spec =

@@ -13,7 +13,10 @@ returns c = rw (ne-eqb _ _ (c .if1 .taken))
 
 returns-2 : tie.Need-returns-2
 unfolding readBy pirtrRow
-returns-2 c = c .pirtr-from .ensures ∙ rw (eq-eqb _ _ (c .before .before .before .if1 .left), c .before .four-in .ensures, c .before .before .fixed-in .ensures)
+returns-2 c =
+    let b2 = c .before .before in
+    let b3 = b2 .before in
+    c .pirtr-from .ensures ∙ rw (eq-eqb _ _ (b3 .if1 .left), c .before .four-in .ensures, b2 .fixed-in .ensures)
 
 pub read-spec : {M : Type 1} → statement M
 read-spec =

@@ -8,11 +8,75 @@ use Rattle.navigation.proofs.gga.gga_from.Tie as tie
 
 returns : tie.Need-returns
 unfolding answerBy ggaRow
-returns c = rw (← c .before .before .before .before .before .before .before .before .before .before .before .near .ensures, ← c .before .before .before .before .before .before .before .before .before .before .near2 .ensures, ← c .before .before .before .before .before .before .before .before .before .near3 .ensures, ← c .before .before .before .before .before .before .before .before .near4 .ensures, ← c .before .before .before .before .before .before .before .near5 .ensures, ← c .before .before .before .before .before .before .near6 .ensures, ← c .before .before .before .before .before .near7 .ensures, ← c .before .before .before .before .near8 .ensures, ← c .before .before .before .near9 .ensures, ← c .before .before .near10 .ensures, ← c .before .near11 .ensures, ne-eqb _ _ (c .if1 .taken))
+returns c =
+    let b2 = c .before .before in
+    let b3 = b2 .before in
+    let b4 = b3 .before in
+    let b5 = b4 .before in
+    let b6 = b5 .before in
+    let b7 = b6 .before in
+    let b8 = b7 .before in
+    let b9 = b8 .before in
+    let b10 = b9 .before in
+    let b11 = b10 .before in
+    rw (
+      ← b11 .near .ensures,
+      ← b10 .near2 .ensures,
+      ← b9 .near3 .ensures,
+      ← b8 .near4 .ensures,
+      ← b7 .near5 .ensures,
+      ← b6 .near6 .ensures,
+      ← b5 .near7 .ensures,
+      ← b4 .near8 .ensures,
+      ← b3 .near9 .ensures,
+      ← b2 .near10 .ensures,
+      ← c .before .near11 .ensures,
+      ne-eqb _ _ (c .if1 .taken),
+    )
 
 returns-2 : tie.Need-returns-2
 unfolding answerBy ggaRow
-returns-2 c = rw (← c .before .before .before .before .before .before .before .before .before .before .before .before .before .before .before .before .before .before .before .near .ensures, ← c .before .before .before .before .before .before .before .before .before .before .before .before .before .before .before .before .before .before .near2 .ensures, ← c .before .before .before .before .before .before .before .before .before .before .before .before .before .before .before .before .before .near3 .ensures, ← c .before .before .before .before .before .before .before .before .before .before .before .before .before .before .before .before .near4 .ensures, ← c .before .before .before .before .before .before .before .before .before .before .before .before .before .before .before .near5 .ensures, ← c .before .before .before .before .before .before .before .before .before .before .before .before .before .before .near6 .ensures, ← c .before .before .before .before .before .before .before .before .before .before .before .before .before .near7 .ensures, ← c .before .before .before .before .before .before .before .before .before .before .before .before .near8 .ensures, ← c .before .before .before .before .before .before .before .before .before .before .before .near9 .ensures, ← c .before .before .before .before .before .before .before .before .before .before .near10 .ensures, ← c .before .before .before .before .before .before .before .before .before .near11 .ensures, eq-eqb _ _ (c .before .before .before .before .before .before .before .before .if1 .left), c .before .before .before .before .before .before .before .kept .ensures, c .before .before .before .before .before .before .placed .ensures, c .before .before .before .before .before .kept2 .ensures, c .before .before .before .before .number .ensures, c .before .before .before .signed .ensures, c .before .before .signed2 .ensures, c .before .number2 .ensures, c .kept3 .ensures)
+returns-2 c =
+    let b2 = c .before .before in
+    let b3 = b2 .before in
+    let b4 = b3 .before in
+    let b5 = b4 .before in
+    let b6 = b5 .before in
+    let b7 = b6 .before in
+    let b8 = b7 .before in
+    let b9 = b8 .before in
+    let b10 = b9 .before in
+    let b11 = b10 .before in
+    let b12 = b11 .before in
+    let b13 = b12 .before in
+    let b14 = b13 .before in
+    let b15 = b14 .before in
+    let b16 = b15 .before in
+    let b17 = b16 .before in
+    let b18 = b17 .before in
+    let b19 = b18 .before in
+    rw (
+      ← b19 .near .ensures,
+      ← b18 .near2 .ensures,
+      ← b17 .near3 .ensures,
+      ← b16 .near4 .ensures,
+      ← b15 .near5 .ensures,
+      ← b14 .near6 .ensures,
+      ← b13 .near7 .ensures,
+      ← b12 .near8 .ensures,
+      ← b11 .near9 .ensures,
+      ← b10 .near10 .ensures,
+      ← b9 .near11 .ensures,
+      eq-eqb _ _ (b8 .if1 .left),
+      b7 .kept .ensures,
+      b6 .placed .ensures,
+      b5 .kept2 .ensures,
+      b4 .number .ensures,
+      b3 .signed .ensures,
+      b2 .signed2 .ensures,
+      c .before .number2 .ensures,
+      c .kept3 .ensures,
+    )
 
 pub gga-from-spec : {M : Type 1} → statement M
 gga-from-spec =

@@ -13,7 +13,32 @@ returns c = rw (ne-eqb _ _ (c .if1 .taken))
 
 returns-2 : tie.Need-returns-2
 unfolding readBy ggaRow
-returns-2 c = c .gga-from .ensures ∙ rw (eq-eqb _ _ (c .before .before .before .before .before .before .before .before .before .before .before .before .if1 .left), c .before .fixed-in2 .ensures, c .before .before .number-in2 .ensures, c .before .before .before .unit-in2 .ensures, c .before .before .before .before .height-in2 .ensures, c .before .before .before .before .before .unit-in .ensures, c .before .before .before .before .before .before .height-in .ensures, c .before .before .before .before .before .before .before .number-in .ensures, c .before .before .before .before .before .before .before .before .fixed-in .ensures, c .before .before .before .before .before .before .before .before .before .exact-in .ensures, c .before .before .before .before .before .before .before .before .before .before .position-in .ensures, c .before .before .before .before .before .before .before .before .before .before .before .time-in .ensures)
+returns-2 c =
+    let b2 = c .before .before in
+    let b3 = b2 .before in
+    let b4 = b3 .before in
+    let b5 = b4 .before in
+    let b6 = b5 .before in
+    let b7 = b6 .before in
+    let b8 = b7 .before in
+    let b9 = b8 .before in
+    let b10 = b9 .before in
+    let b11 = b10 .before in
+    let b12 = b11 .before in
+    c .gga-from .ensures ∙ rw (
+      eq-eqb _ _ (b12 .if1 .left),
+      c .before .fixed-in2 .ensures,
+      b2 .number-in2 .ensures,
+      b3 .unit-in2 .ensures,
+      b4 .height-in2 .ensures,
+      b5 .unit-in .ensures,
+      b6 .height-in .ensures,
+      b7 .number-in .ensures,
+      b8 .fixed-in .ensures,
+      b9 .exact-in .ensures,
+      b10 .position-in .ensures,
+      b11 .time-in .ensures,
+    )
 
 pub read-spec : {M : Type 1} → statement M
 read-spec =

@@ -13,7 +13,18 @@ returns c = rw (ne-eqb _ _ (c .if1 .taken))
 
 returns-2 : tie.Need-returns-2
 unfolding readBy gllRow
-returns-2 c = c .gll-from .ensures ∙ rw (eq-eqb _ _ (c .before .before .before .before .before .before .before .if1 .left), c .before .letter-in2 .ensures, c .before .before .before .letter-in .ensures, c .before .before .before .before .before .time-in .ensures, c .before .before .before .before .before .before .position-in .ensures)
+returns-2 c =
+    let b3 = c .before .before .before in
+    let b5 = b3 .before .before in
+    let b6 = b5 .before in
+    let b7 = b6 .before in
+    c .gll-from .ensures ∙ rw (
+      eq-eqb _ _ (b7 .if1 .left),
+      c .before .letter-in2 .ensures,
+      b3 .letter-in .ensures,
+      b5 .time-in .ensures,
+      b6 .position-in .ensures,
+    )
 
 pub read-spec : {M : Type 1} → statement M
 read-spec =

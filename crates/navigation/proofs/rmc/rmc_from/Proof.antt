@@ -8,11 +8,59 @@ use Rattle.navigation.proofs.rmc.rmc_from.Tie as tie
 
 returns : tie.Need-returns
 unfolding answerBy rmcRow
-returns c = rw (← c .before .before .before .before .before .before .before .before .near .ensures, ← c .before .before .before .before .before .before .before .near2 .ensures, ← c .before .before .before .before .before .before .near3 .ensures, ← c .before .before .before .before .before .near4 .ensures, ← c .before .before .before .before .near5 .ensures, ← c .before .before .before .near6 .ensures, ← c .before .before .near7 .ensures, ← c .before .near8 .ensures, ne-eqb _ _ (c .if1 .taken))
+returns c =
+    let b2 = c .before .before in
+    let b3 = b2 .before in
+    let b4 = b3 .before in
+    let b5 = b4 .before in
+    let b6 = b5 .before in
+    let b7 = b6 .before in
+    let b8 = b7 .before in
+    rw (
+      ← b8 .near .ensures,
+      ← b7 .near2 .ensures,
+      ← b6 .near3 .ensures,
+      ← b5 .near4 .ensures,
+      ← b4 .near5 .ensures,
+      ← b3 .near6 .ensures,
+      ← b2 .near7 .ensures,
+      ← c .before .near8 .ensures,
+      ne-eqb _ _ (c .if1 .taken),
+    )
 
 returns-2 : tie.Need-returns-2
 unfolding answerBy rmcRow
-returns-2 c = rw (← c .before .before .before .before .before .before .before .before .before .before .before .before .before .before .near .ensures, ← c .before .before .before .before .before .before .before .before .before .before .before .before .before .near2 .ensures, ← c .before .before .before .before .before .before .before .before .before .before .before .before .near3 .ensures, ← c .before .before .before .before .before .before .before .before .before .before .before .near4 .ensures, ← c .before .before .before .before .before .before .before .before .before .before .near5 .ensures, ← c .before .before .before .before .before .before .before .before .before .near6 .ensures, ← c .before .before .before .before .before .before .before .before .near7 .ensures, ← c .before .before .before .before .before .before .before .near8 .ensures, eq-eqb _ _ (c .before .before .before .before .before .before .if1 .left), c .before .before .before .before .before .kept .ensures, c .before .before .before .before .placed .ensures, c .before .before .before .knots .ensures, c .before .before .number .ensures, c .before .dated .ensures, c .signed .ensures)
+returns-2 c =
+    let b2 = c .before .before in
+    let b3 = b2 .before in
+    let b4 = b3 .before in
+    let b5 = b4 .before in
+    let b6 = b5 .before in
+    let b7 = b6 .before in
+    let b8 = b7 .before in
+    let b9 = b8 .before in
+    let b10 = b9 .before in
+    let b11 = b10 .before in
+    let b12 = b11 .before in
+    let b13 = b12 .before in
+    let b14 = b13 .before in
+    rw (
+      ← b14 .near .ensures,
+      ← b13 .near2 .ensures,
+      ← b12 .near3 .ensures,
+      ← b11 .near4 .ensures,
+      ← b10 .near5 .ensures,
+      ← b9 .near6 .ensures,
+      ← b8 .near7 .ensures,
+      ← b7 .near8 .ensures,
+      eq-eqb _ _ (b6 .if1 .left),
+      b5 .kept .ensures,
+      b4 .placed .ensures,
+      b3 .knots .ensures,
+      b2 .number .ensures,
+      c .before .dated .ensures,
+      c .signed .ensures,
+    )
 
 pub rmc-from-spec : {M : Type 1} → statement M
 rmc-from-spec =

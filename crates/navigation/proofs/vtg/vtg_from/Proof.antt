@@ -8,11 +8,59 @@ use Rattle.navigation.proofs.vtg.vtg_from.Tie as tie
 
 returns : tie.Need-returns
 unfolding answerBy vtgRow
-returns c = rw (← c .before .before .before .before .before .before .before .before .before .near .ensures, ← c .before .before .before .before .before .before .before .before .near2 .ensures, ← c .before .before .before .before .before .before .before .near3 .ensures, ← c .before .before .before .before .before .before .near4 .ensures, ← c .before .before .before .before .before .near5 .ensures, ← c .before .before .before .before .near6 .ensures, ← c .before .before .before .near7 .ensures, ← c .before .before .near8 .ensures, ← c .before .near9 .ensures, ne-eqb _ _ (c .if1 .taken))
+returns c =
+    let b2 = c .before .before in
+    let b3 = b2 .before in
+    let b4 = b3 .before in
+    let b5 = b4 .before in
+    let b6 = b5 .before in
+    let b7 = b6 .before in
+    let b8 = b7 .before in
+    let b9 = b8 .before in
+    rw (
+      ← b9 .near .ensures,
+      ← b8 .near2 .ensures,
+      ← b7 .near3 .ensures,
+      ← b6 .near4 .ensures,
+      ← b5 .near5 .ensures,
+      ← b4 .near6 .ensures,
+      ← b3 .near7 .ensures,
+      ← b2 .near8 .ensures,
+      ← c .before .near9 .ensures,
+      ne-eqb _ _ (c .if1 .taken),
+    )
 
 returns-2 : tie.Need-returns-2
 unfolding answerBy vtgRow
-returns-2 c = rw (← c .before .before .before .before .before .before .before .before .before .before .before .before .before .near .ensures, ← c .before .before .before .before .before .before .before .before .before .before .before .before .near2 .ensures, ← c .before .before .before .before .before .before .before .before .before .before .before .near3 .ensures, ← c .before .before .before .before .before .before .before .before .before .before .near4 .ensures, ← c .before .before .before .before .before .before .before .before .before .near5 .ensures, ← c .before .before .before .before .before .before .before .before .near6 .ensures, ← c .before .before .before .before .before .before .before .near7 .ensures, ← c .before .before .before .before .before .before .near8 .ensures, ← c .before .before .before .before .before .near9 .ensures, eq-eqb _ _ (c .before .before .before .before .if1 .left), c .before .before .before .number .ensures, c .before .before .number2 .ensures, c .before .knots .ensures, c .kmh .ensures)
+returns-2 c =
+    let b2 = c .before .before in
+    let b3 = b2 .before in
+    let b4 = b3 .before in
+    let b5 = b4 .before in
+    let b6 = b5 .before in
+    let b7 = b6 .before in
+    let b8 = b7 .before in
+    let b9 = b8 .before in
+    let b10 = b9 .before in
+    let b11 = b10 .before in
+    let b12 = b11 .before in
+    let b13 = b12 .before in
+    rw (
+      ← b13 .near .ensures,
+      ← b12 .near2 .ensures,
+      ← b11 .near3 .ensures,
+      ← b10 .near4 .ensures,
+      ← b9 .near5 .ensures,
+      ← b8 .near6 .ensures,
+      ← b7 .near7 .ensures,
+      ← b6 .near8 .ensures,
+      ← b5 .near9 .ensures,
+      eq-eqb _ _ (b4 .if1 .left),
+      b3 .number .ensures,
+      b2 .number2 .ensures,
+      c .before .knots .ensures,
+      c .kmh .ensures,
+    )
 
 pub vtg-from-spec : {M : Type 1} → statement M
 vtg-from-spec =

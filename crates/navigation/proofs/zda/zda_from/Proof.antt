@@ -8,11 +8,28 @@ use Rattle.navigation.proofs.zda.zda_from.Tie as tie
 
 returns : tie.Need-returns
 unfolding answerBy zdaRow
-returns c = rw (← c .before .before .before .near .ensures, ← c .before .before .near2 .ensures, ← c .before .near3 .ensures, ne-eqb _ _ (c .if1 .taken))
+returns c =
+    let b2 = c .before .before in
+    let b3 = b2 .before in
+    rw (← b3 .near .ensures, ← b2 .near2 .ensures, ← c .before .near3 .ensures, ne-eqb _ _ (c .if1 .taken))
 
 returns-2 : tie.Need-returns-2
 unfolding answerBy zdaRow
-returns-2 c = rw (← c .before .before .before .before .before .before .near .ensures, ← c .before .before .before .before .before .near2 .ensures, ← c .before .before .before .before .near3 .ensures, eq-eqb _ _ (c .before .before .before .if1 .left), c .before .before .kept .ensures, c .before .dated .ensures, c .zoned .ensures)
+returns-2 c =
+    let b2 = c .before .before in
+    let b3 = b2 .before in
+    let b4 = b3 .before in
+    let b5 = b4 .before in
+    let b6 = b5 .before in
+    rw (
+      ← b6 .near .ensures,
+      ← b5 .near2 .ensures,
+      ← b4 .near3 .ensures,
+      eq-eqb _ _ (b3 .if1 .left),
+      b2 .kept .ensures,
+      c .before .dated .ensures,
+      c .zoned .ensures,
+    )
 
 pub zda-from-spec : {M : Type 1} → statement M
 zda-from-spec =

@@ -8,11 +8,28 @@ use Rattle.satellites.proofs.gsa.gsa_from.Tie as tie
 
 returns : tie.Need-returns
 unfolding gsaFrom
-returns c = c .alone .ensures ∙ rw (← c .before .before .before .near .ensures, ← c .before .before .near2 .ensures, ne-eqb _ _ (c .before .if1 .taken))
+returns c =
+    let b2 = c .before .before in
+    let b3 = b2 .before in
+    c .alone .ensures ∙ rw (← b3 .near .ensures, ← b2 .near2 .ensures, ne-eqb _ _ (c .before .if1 .taken))
 
 returns-2 : tie.Need-returns-2
 unfolding gsaFrom
-returns-2 c = rw (← c .before .before .before .before .before .before .before .near .ensures, ← c .before .before .before .before .before .before .near2 .ensures, eq-eqb _ _ (c .before .before .before .before .before .if1 .left), c .before .before .before .number .ensures, c .before .before .number2 .ensures, c .before .number3 .ensures, c .gsv .ensures)
+returns-2 c =
+    let b2 = c .before .before in
+    let b3 = b2 .before in
+    let b5 = b3 .before .before in
+    let b6 = b5 .before in
+    let b7 = b6 .before in
+    rw (
+      ← b7 .near .ensures,
+      ← b6 .near2 .ensures,
+      eq-eqb _ _ (b5 .if1 .left),
+      b3 .number .ensures,
+      b2 .number2 .ensures,
+      c .before .number3 .ensures,
+      c .gsv .ensures,
+    )
 
 pub gsa-from-spec : {M : Type 1} → statement M
 gsa-from-spec =

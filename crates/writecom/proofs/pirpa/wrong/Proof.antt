@@ -9,7 +9,22 @@ use Rattle.writecom.proofs.pirpa.wrong.Tie as tie
 
 returns : tie.Need-returns
 unfolding faultBy pirpaRow rangeWrong
-returns c = c .near4 .ensures ∙ rw (c .before .within3 .ensures, c .before .before .near3 .ensures, c .before .before .before .within2 .ensures, c .before .before .before .before .near2 .ensures, c .before .before .before .before .before .within .ensures, c .before .before .before .before .before .before .near .ensures, c .before .before .before .before .before .before .before .port-mask .ensures)
+returns c =
+    let b2 = c .before .before in
+    let b3 = b2 .before in
+    let b4 = b3 .before in
+    let b5 = b4 .before in
+    let b6 = b5 .before in
+    let b7 = b6 .before in
+    c .near4 .ensures ∙ rw (
+      c .before .within3 .ensures,
+      b2 .near3 .ensures,
+      b3 .within2 .ensures,
+      b4 .near2 .ensures,
+      b5 .within .ensures,
+      b6 .near .ensures,
+      b7 .port-mask .ensures,
+    )
 
 pub wrong-spec : {M : Type 1} → statement M
 wrong-spec =

@@ -8,7 +8,12 @@ use Rattle.writecom.proofs.pirpr.put_fields.Tie as tie
 
 returns : tie.Need-returns
 unfolding fieldsFor pirprRow
-returns c = c .before .before .before .before .before .before .before .before .before .before .before .before .before .before .one .ensures then c .before .before .before .before .before .before .before .before .before .before .plain .ensures then c .before .before .before .before .before .before .one2 .ensures then c .before .before .four .ensures
+returns c =
+    let b2 = c .before .before in
+    let b6 = b2 .before .before .before .before in
+    let b10 = b6 .before .before .before .before in
+    let b14 = b10 .before .before .before .before in
+    b14 .one .ensures then b10 .plain .ensures then b6 .one2 .ensures then b2 .four .ensures
 
 pub put-fields-spec : {M : Type 1} → statement M
 put-fields-spec =

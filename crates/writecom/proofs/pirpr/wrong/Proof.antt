@@ -8,7 +8,26 @@ use Rattle.writecom.proofs.pirpr.wrong.Tie as tie
 
 returns : tie.Need-returns
 unfolding faultBy pirprRow
-returns c = c .near4 .ensures ∙ rw (c .before .maybe3 .ensures, c .before .before .near3 .ensures, c .before .before .before .maybe2 .ensures, c .before .before .before .before .near2 .ensures, c .before .before .before .before .before .alike2 .ensures, c .before .before .before .before .before .before .maybe .ensures, c .before .before .before .before .before .before .before .near .ensures, c .before .before .before .before .before .before .before .before .alike .ensures, c .before .before .before .before .before .before .before .before .before .port-mask .ensures)
+returns c =
+    let b2 = c .before .before in
+    let b3 = b2 .before in
+    let b4 = b3 .before in
+    let b5 = b4 .before in
+    let b6 = b5 .before in
+    let b7 = b6 .before in
+    let b8 = b7 .before in
+    let b9 = b8 .before in
+    c .near4 .ensures ∙ rw (
+      c .before .maybe3 .ensures,
+      b2 .near3 .ensures,
+      b3 .maybe2 .ensures,
+      b4 .near2 .ensures,
+      b5 .alike2 .ensures,
+      b6 .maybe .ensures,
+      b7 .near .ensures,
+      b8 .alike .ensures,
+      b9 .port-mask .ensures,
+    )
 
 pub wrong-spec : {M : Type 1} → statement M
 wrong-spec =

@@ -8,7 +8,11 @@ use Rattle.writecom.proofs.pirsa.put_fields.Tie as tie
 
 returns : tie.Need-returns
 unfolding fieldsFor pirsaRow
-returns c = c .before .before .before .before .before .before .before .before .before .before .eight .ensures then c .before .before .before .before .before .before .six .ensures then c .before .before .empty .ensures
+returns c =
+    let b2 = c .before .before in
+    let b6 = b2 .before .before .before .before in
+    let b10 = b6 .before .before .before .before in
+    b10 .eight .ensures then b6 .six .ensures then b2 .empty .ensures
 
 pub put-fields-spec : {M : Type 1} → statement M
 put-fields-spec = tie.close (tie.spec (λ c κs. search needs) (λ c κs. search needs) (λ c κs. search needs) (λ c. search needs) returns)

@@ -9,7 +9,10 @@ use Rattle.writecom.proofs.pirsa.wrong.Tie as tie
 
 returns : tie.Need-returns
 unfolding faultBy pirsaRow
-returns c = c .near2 .ensures ∙ rw (c .before .within2 .ensures, c .before .before .near .ensures, c .before .before .before .within .ensures, never-wrong 2)
+returns c =
+    let b2 = c .before .before in
+    let b3 = b2 .before in
+    c .near2 .ensures ∙ rw (c .before .within2 .ensures, b2 .near .ensures, b3 .within .ensures, never-wrong 2)
 
 pub wrong-spec : {M : Type 1} → statement M
 wrong-spec = tie.close (tie.spec (λ c κs. search needs) (λ c κs. search needs) (λ c κs. search needs) (λ c κs. search needs) returns)

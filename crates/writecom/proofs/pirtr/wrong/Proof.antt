@@ -14,7 +14,18 @@ fits1 c = search needs
 
 returns : tie.Need-returns
 unfolding faultBy pirtrRow
-returns c = c .near2 .ensures ∙ rw (c .before .maybe .ensures, c .before .before .near .ensures, c .before .before .before .alike .ensures, c .before .before .before .before .signed .ensures, toZ-ofZ {w = w32} {z = c .before .before .before .before .before .before .args .r .zone .minutes} (fits1 (c .before .before .before .before .before .before)))
+returns c =
+    let b2 = c .before .before in
+    let b3 = b2 .before in
+    let b4 = b3 .before in
+    let b6 = b4 .before .before in
+    c .near2 .ensures ∙ rw (
+      c .before .maybe .ensures,
+      b2 .near .ensures,
+      b3 .alike .ensures,
+      b4 .signed .ensures,
+      toZ-ofZ {w = w32} {z = b6 .args .r .zone .minutes} (fits1 (b6)),
+    )
 
 pub wrong-spec : {M : Type 1} → statement M
 wrong-spec =

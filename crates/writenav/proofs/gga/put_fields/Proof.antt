@@ -17,7 +17,23 @@ fits2 c = search needs
 
 returns : tie.Need-returns
 unfolding fieldsFor ggaRow
-returns c = c .before .before .before .before .before .before .before .before .before .before .before .before .before .before .before .before .before .before .before .before .before .before .before .before .before .before .before .before .before .before .before .before .before .before .before .before .before .before .before .before .before .before .before .before .time .ensures then c .before .before .before .before .before .before .before .before .before .before .before .before .before .before .before .before .before .before .before .before .before .before .before .before .before .before .before .before .before .before .before .before .before .before .before .before .before .before .before .before .place .ensures then c .before .before .before .before .before .before .before .before .before .before .before .before .before .before .before .before .before .before .before .before .before .before .before .before .before .before .before .before .before .before .before .before .before .before .before .before .one .ensures then c .before .before .before .before .before .before .before .before .before .before .before .before .before .before .before .before .before .before .before .before .before .before .before .before .before .before .before .before .before .before .before .before .two .ensures then c .before .before .before .before .before .before .before .before .before .before .before .before .before .before .before .before .before .before .before .before .before .before .before .before .before .before .before .before .number .ensures then (rw (toZ-ofZ {w = w32} {z = c .before .before .before .before .before .before .before .before .before .before .before .before .before .before .before .before .before .before .before .before .before .before .before .before .before .before .before .before .before .before .before .before .before .before .before .before .before .before .before .before .before .before .before .before .before .before .before .args .r .altitude .value} (fits1 (c .before .before .before .before .before .before .before .before .before .before .before .before .before .before .before .before .before .before .before .before .before .before .before .before .before .before .before .before .before .before .before .before .before .before .before .before .before .before .before .before .before .before .before .before .before .before .before))) at (c .before .before .before .before .before .before .before .before .before .before .before .before .before .before .before .before .before .before .before .before .before .before .before .height .ensures)) then c .before .before .before .before .before .before .before .before .before .before .before .before .before .before .before .before .before .before .before .unit .ensures then (rw (toZ-ofZ {w = w32} {z = c .before .before .before .before .before .before .before .before .before .before .before .before .before .before .before .before .before .before .before .before .before .before .before .before .before .before .before .before .before .before .before .before .before .before .before .before .before .before .before .before .before .before .before .before .before .before .before .args .r .geoid .value} (fits2 (c .before .before .before .before .before .before .before .before .before .before .before .before .before .before .before .before .before .before .before .before .before .before .before .before .before .before .before .before .before .before .before .before .before .before .before .before .before .before .before .before .before .before .before .before .before .before .before))) at (c .before .before .before .before .before .before .before .before .before .before .before .before .before .before .height2 .ensures)) then c .before .before .before .before .before .before .before .before .before .before .unit2 .ensures then c .before .before .before .before .before .before .number2 .ensures then c .before .before .four .ensures
+returns c =
+    let b2 = c .before .before in
+    let b6 = b2 .before .before .before .before in
+    let b10 = b6 .before .before .before .before in
+    let b14 = b10 .before .before .before .before in
+    let b19 = b14 .before .before .before .before .before in
+    let b23 = b19 .before .before .before .before in
+    let b28 = b23 .before .before .before .before .before in
+    let b32 = b28 .before .before .before .before in
+    let b36 = b32 .before .before .before .before in
+    let b40 = b36 .before .before .before .before in
+    let b44 = b40 .before .before .before .before in
+    let b47 = b44 .before .before .before in
+    b44 .time .ensures then b40 .place .ensures then b36 .one .ensures then b32 .two .ensures then b28 .number .ensures
+    then (rw (toZ-ofZ {w = w32} {z = b47 .args .r .altitude .value} (fits1 (b47))) at (b23 .height .ensures))
+    then b19 .unit .ensures then (rw (toZ-ofZ {w = w32} {z = b47 .args .r .geoid .value} (fits2 (b47))) at (b14 .height2 .ensures))
+    then b10 .unit2 .ensures then b6 .number2 .ensures then b2 .four .ensures
 
 same-length : tie.Need-same-length
 same-length c = fields-kept (returns c)

@@ -8,7 +8,12 @@ use Rattle.writenav.proofs.gll.put_fields.Tie as tie
 
 returns : tie.Need-returns
 unfolding fieldsFor gllRow
-returns c = c .before .before .before .before .before .before .before .before .before .before .before .before .before .before .place .ensures then c .before .before .before .before .before .before .before .before .before .before .time .ensures then c .before .before .before .before .before .before .letter .ensures then c .before .before .letter2 .ensures
+returns c =
+    let b2 = c .before .before in
+    let b6 = b2 .before .before .before .before in
+    let b10 = b6 .before .before .before .before in
+    let b14 = b10 .before .before .before .before in
+    b14 .place .ensures then b10 .time .ensures then b6 .letter .ensures then b2 .letter2 .ensures
 
 pub put-fields-spec : {M : Type 1} → statement M
 put-fields-spec =

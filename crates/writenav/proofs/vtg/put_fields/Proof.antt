@@ -8,7 +8,18 @@ use Rattle.writenav.proofs.vtg.put_fields.Tie as tie
 
 returns : tie.Need-returns
 unfolding fieldsFor vtgRow
-returns c = c .before .before .before .before .before .before .before .before .before .before .before .before .before .before .before .before .before .before .before .before .before .before .before .before .before .before .before .before .before .before .before .before .before .before .number .ensures then c .before .before .before .before .before .before .before .before .before .before .before .before .before .before .before .before .before .before .before .before .before .before .before .before .before .before .before .before .before .before .unit .ensures then c .before .before .before .before .before .before .before .before .before .before .before .before .before .before .before .before .before .before .before .before .before .before .before .before .before .before .number2 .ensures then c .before .before .before .before .before .before .before .before .before .before .before .before .before .before .before .before .before .before .before .before .before .before .unit2 .ensures then c .before .before .before .before .before .before .before .before .before .before .before .before .before .before .before .before .before .before .number3 .ensures then c .before .before .before .before .before .before .before .before .before .before .before .before .before .before .unit3 .ensures then c .before .before .before .before .before .before .before .before .before .before .number4 .ensures then c .before .before .before .before .before .before .unit4 .ensures then c .before .before .letter .ensures
+returns c =
+    let b2 = c .before .before in
+    let b6 = b2 .before .before .before .before in
+    let b10 = b6 .before .before .before .before in
+    let b14 = b10 .before .before .before .before in
+    let b18 = b14 .before .before .before .before in
+    let b22 = b18 .before .before .before .before in
+    let b26 = b22 .before .before .before .before in
+    let b30 = b26 .before .before .before .before in
+    let b34 = b30 .before .before .before .before in
+    b34 .number .ensures then b30 .unit .ensures then b26 .number2 .ensures then b22 .unit2 .ensures then b18 .number3 .ensures
+    then b14 .unit3 .ensures then b10 .number4 .ensures then b6 .unit4 .ensures then b2 .letter .ensures
 
 same-length : tie.Need-same-length
 same-length c = fields-kept (returns c)

@@ -8,7 +8,11 @@ use Rattle.writenav.proofs.zda.put_fields.Tie as tie
 
 returns : tie.Need-returns
 unfolding fieldsFor zdaRow
-returns c = c .before .before .before .before .before .before .before .before .before .before .time .ensures then c .before .before .before .before .before .before .three .ensures then c .before .before .zone .ensures
+returns c =
+    let b2 = c .before .before in
+    let b6 = b2 .before .before .before .before in
+    let b10 = b6 .before .before .before .before in
+    b10 .time .ensures then b6 .three .ensures then b2 .zone .ensures
 
 pub put-fields-spec : {M : Type 1} → statement M
 put-fields-spec = tie.close (tie.spec (λ c κs. search needs) (λ c κs. search needs) (λ c κs. search needs) (λ c. search needs) returns)

@@ -10,7 +10,17 @@ use Rattle.writesat.proofs.gsv.put_fields.Tie as tie
 
 returns : tie.Need-returns
 unfolding gsvFields fieldsFor gsvRow
-returns c = c .before .before .before .before .before .before .before .before .before .before .before .before .before .before .before .before .before .before .before .before .before .before .before .before .before .before .before .before .before .before .one .ensures then c .before .before .before .before .before .before .before .before .before .before .before .before .before .before .before .before .before .before .before .before .before .before .before .before .before .before .one2 .ensures then c .before .before .before .before .before .before .before .before .before .before .before .before .before .before .before .before .before .before .before .before .before .before .two .ensures then (c .before .before .before .before .before .before .before .before .before .before .before .before .before .before .before .before .before .put-entry .ensures then (c .before .before .before .before .before .before .before .before .before .before .before .before .put-entry2 .ensures then (c .before .before .before .before .before .before .before .put-entry3 .ensures then (c .before .before .put-entry4 .ensures then no-field _))))
+returns c =
+    let b2 = c .before .before in
+    let b7 = b2 .before .before .before .before .before in
+    let b12 = b7 .before .before .before .before .before in
+    let b17 = b12 .before .before .before .before .before in
+    let b22 = b17 .before .before .before .before .before in
+    let b26 = b22 .before .before .before .before in
+    let b30 = b26 .before .before .before .before in
+    b30 .one .ensures then b26 .one2 .ensures then b22 .two .ensures
+    then (b17 .put-entry .ensures
+    then (b12 .put-entry2 .ensures then (b7 .put-entry3 .ensures then (b2 .put-entry4 .ensures then no-field _))))
 
 pub put-fields-spec : {M : Type 1} → statement M
 put-fields-spec =
