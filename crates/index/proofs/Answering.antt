@@ -57,14 +57,15 @@ module _ (x : Listing) (out : List ℕ) (es : x ≡ listed (entriesIn x)) where
       (omega (arith, numbers-long (entriesIn x))) in
       rw (es, over) (e, refl)
 
-  pub read-all : {count place : ℕ} {left : List ℕ} → length (entriesIn x) ≤ length out / 3 → count ≡ length (entriesIn x)
-      → Puts (held 0 out) (numbersOf (entriesIn x)) (held place left) → {r : Listed} → r ≡ listing 0 count
-      → (r ≡ listedFor x (length out)) × (left ≡ laidFor x out)
-  read-all {count} h c p e =
-      let fits-in : length (numbersOf (entriesIn x)) ≤ length out = omega (arith, numbers-long (entriesIn x)) in
+  pub read-room : length (entriesIn x) ≤ length out / 3 → length (numbersOf (entriesIn x)) ≤ length out
+  read-room h = omega (arith, numbers-long (entriesIn x))
+
+  pub read-all : {count : ℕ} → length (entriesIn x) ≤ length out / 3 → count ≡ length (entriesIn x)
+      → {r : Listed} → r ≡ listing 0 count → r ≡ listedFor x (length out)
+  read-all h c e =
       let room : ltb (length out) (length (numbersOf (entriesIn x))) ≡ false = le-ltb (length out) (length (numbersOf (entriesIn x)))
-      fits-in in
-      rw (es, room) (e ∙ ap (listing 0) c, put-whole p fits-in)
+      (read-room h) in
+      rw (es, room) (e ∙ ap (listing 0) c)
 
 -- What was written had room.
 written-room : (ns : List ℕ) (room : ℕ) → writtenIndex ns room .no ≡ 0 → length (indexBytes (entriesOf ns)) ≤ room

@@ -4,10 +4,13 @@ pub mod Back
 pub mod ReadLaws
 pub mod Places
 pub mod Scanning
+pub mod Passing
+pub mod Walking
+pub mod Tips
+pub mod Laying
 pub mod Storing
 pub mod Planning
 pub mod Answering
 pub mod Lists
 pub mod Turns
 pub mod Promises
-pub mod Walking

@@ -13,12 +13,7 @@ use Rattle.index.specs.declared.reading.Found.{Found}
 use Rattle.index.specs.declared.reading.Scanned.{Scanned}
 use Rattle.index.specs.Index.{origin, Listing, listed, noIndex, onto, pick}
 use Rattle.index.specs.Answers.{lastOf, finding, findIn, foundIn, bestOf}
-use Rattle.index.specs.Places.{scanOf}
-
--- How many entries, and the last of them.
-abbrev pub scanOn : ℕ → Entry → Listing → Scanned
-scanOn count last (listed es) = record { whole = true; count = count + length es; last = lastOf last es }
-scanOn count last noIndex = scanOf noIndex
+use Rattle.index.specs.Places.{scanOf, scanOn}
 
 counted : (n m : ℕ) (e : Entry) → n ≡ m → _≡_ {A = Scanned} (record { whole = true; count = n; last = e })
     (record { whole = true; count = m; last = e })

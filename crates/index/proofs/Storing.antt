@@ -7,11 +7,10 @@ use native.Mathlib.Numerals.{add-one}
 use lib.ListN.{length, getD, set, drop, length-drop, length-set}
 use lib.Seq.{drop-cons}
 use Rattle.put.specs.Wrote.{Held, held, wrote, Puts}
-use Rattle.put.proofs.Chain.{wrote-append, put-room, put-full, _⨾_}
+use Rattle.put.proofs.Chain.{wrote-append, put-room, _⨾_}
 use Rattle.index.specs.declared.Entry.{Entry}
-use Rattle.index.specs.Index.{origin, entryBytes, bytesFrom, Listing, listed, noIndex, onto, readFrom, readIndex}
-use Rattle.index.specs.Answers.{numbersOf, entriesOf, entriesIn, threeAt}
-use Rattle.index.proofs.Places.{Entered}
+use Rattle.index.specs.Index.{entryBytes, bytesFrom}
+use Rattle.index.specs.Answers.{entriesOf, threeAt}
 
 -- Three numbers stored where there is room for all of them.
 pub three-room : (p a b c : ℕ) (d : List ℕ) → p + 3 ≤ length d
@@ -24,54 +23,6 @@ three-room p a b c d h =
     let put-b = rw one at (put-room (p + 1) (set d p a) b second) in
     let put-c = rw two at (put-room (p + 2) (set (set d p a) (p + 1) b) c third) in
     put-room p d a (omega arith) ⨾ put-b ⨾ put-c
-
-pub three-full : (p a b c : ℕ) (d : List ℕ) → length d ≤ p → Puts (held p d) (a ∷ (b ∷ (c ∷ []))) (held p d)
-three-full p a b c d h = put-full p d a h ⨾ put-full p d b h ⨾ put-full p d c h
-
--- The entries from the place on, whose numbers are still to be stored.
-pub record Storing (s out₀ out : List ℕ) (place : ℕ) (last : Entry) (at : ℕ) : Type 0 where
-  pub left : List Entry
-  pub reads : readFrom last (drop at s) ≡ listed left
-  pub stores : wrote (held place out) (numbersOf left) ≡ wrote (held 0 out₀) (numbersOf (entriesIn (readIndex s)))
-
-pub storing-start : (s out : List ℕ) → readIndex s ≡ listed (entriesIn (readIndex s)) → Storing s out out 0 origin 0
-storing-start s out h = record { left = entriesIn (readIndex s); reads = h; stores = refl }
-
-numbers-next : (e : Entry) (es : List Entry) → numbersOf (e ∷ es) ≡ numbersOf (e ∷ []) ++ numbersOf es
-unfolding numbersOf
-numbers-next e es = refl
-
-pub storing-next : {s out₀ out out' : List ℕ} {place place' : ℕ} {last e : Entry} {at p : ℕ} → Storing s out₀ out place last at → Entered
-    s at last e p
-    → Puts (held place out) (numbersOf (e ∷ [])) (held place' out') → Storing s out₀ out' place' e p
-storing-next {s} {out₀} {out} {out'} {place} {place'} {last} {e} {at} {p} x t put = go (readFrom e (drop p s)) refl
-  where
-    go : (y : Listing) → readFrom e (drop p s) ≡ y → Storing s out₀ out' place' e p
-    go noIndex f = let z : _≡_ {A = ℕ} 0 1 = cc (x .reads, t .reads, ap (onto e) f) in let n : ⊥ = omega arith in absurd n
-    go (listed es) f =
-        let is : listed (e ∷ es) ≡ listed (x .left) = sym (ap (onto e) f) ∙ sym (t .reads) ∙ x .reads in
-        let same : x .left ≡ e ∷ es = cc in
-        record {
-          left = es;
-          reads = f;
-          stores =
-              ap (λ (h : Held). wrote h (numbersOf es)) (put .is)
-              ∙ sym (wrote-append (held place out) (numbersOf (e ∷ [])) (numbersOf es))
-              ∙ ap (wrote (held place out)) (sym (numbers-next e es) ∙ ap numbersOf (sym same))
-              ∙ x .stores;
-        }
-
-pub storing-end : {s out₀ out : List ℕ} {place : ℕ} {last : Entry} {at : ℕ} → Storing s out₀ out place last at → readFrom last (drop at s)
-    ≡ listed []
-    → Puts (held 0 out₀) (numbersOf (entriesIn (readIndex s))) (held place out)
-unfolding numbersOf wrote
-storing-end {s} {out₀} {out} {place} {last} {at} x f =
-    let none : x .left ≡ [] = cc (x .reads, f) in
-    record { is = sym (ap (λ (es : List Entry). wrote (held place out) (numbersOf es)) none) ∙ x .stores }
-
-pub storing-never : {A : Type 0} {s out₀ out : List ℕ} {place : ℕ} {last : Entry} {at : ℕ} → Storing s out₀ out place last at → readFrom
-    last (drop at s) ≡ noIndex → A
-storing-never x f = let z : _≡_ {A = ℕ} 0 1 = cc (x .reads, f) in let n : ⊥ = omega arith in absurd n
 
 -- The entry of the next three numbers, and none where there are fewer.
 pub three-next : (ns : List ℕ) (i : ℕ) → i + 3 ≤ length ns → entriesOf (drop i ns) ≡ threeAt ns i ∷ entriesOf (drop (i + 3) ns)
