@@ -8,8 +8,9 @@ pub mod Passing
 pub mod Walking
 pub mod Tips
 pub mod Laying
-pub mod Storing
+pub mod Threes
 pub mod Planning
+pub mod Putting
 pub mod Answering
 pub mod Lists
 pub mod Turns

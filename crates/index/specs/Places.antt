@@ -1,6 +1,6 @@
 -- An entry at a place of n bytes, by the place behind it; what going over an index once gives; and what holds between two places of it
 -- that are gone over quickly.
-use Prim.Native.Nat.{ℕ, _+_, _-_, _≤_, _<_}
+use Prim.Native.Nat.{ℕ, _+_, _-_, _*_, _%_, _≤_, _<_}
 use mathlib.Core.Path.{_≡_}
 use mathlib.Core.List.{List}
 use mathlib.Core.Bool.{true, false}
@@ -14,8 +14,10 @@ use Rattle.index.specs.declared.reading.Scanned.{Scanned}
 use Rattle.index.specs.declared.reading.Found.{Found}
 use Rattle.index.specs.declared.reading.Place.{Place}
 use Rattle.index.specs.declared.reading.Laid.{Laid}
+use Rattle.index.specs.declared.writing.Reached.{Reached}
 use Rattle.index.specs.Index.{origin, endOf, Head, entry, short, bad, Listing, listed, noIndex, readFrom, readIndex}
-use Rattle.index.specs.Answers.{lastOf, numbersOf, entriesIn, foundIn}
+use Rattle.index.specs.Index.{inOrder, bytesFrom, indexBytes}
+use Rattle.index.specs.Answers.{lastOf, numbersOf, entriesOf, entriesIn, foundIn}
 
 abbrev pub nextAt : ℕ → Head → Next
 nextAt n (entry e rest) = N.Is e (n - length rest)
@@ -97,3 +99,54 @@ pub record LaysOn (s out : List ℕ) (p : Laid) (left : List ℕ) (q : Laid) : T
   pub on : p .at ≤ q .at
   pub lays : Lays s left q
   pub stores : wrote (held (q .place) left) (numbersOf (unlaid s q)) ≡ wrote (held (p .place) out) (numbersOf (unlaid s p))
+
+-- Three numbers that are an entry which fits, and takes three bytes.
+pub record Small (ns : List ℕ) (i number end : ℕ) : Type 0 where
+  pub inside : i + 3 ≤ length ns
+  pub later : number < getD ns i 0
+  pub gap : getD ns i 0 ≤ number + 127
+  pub behind : end ≤ getD ns (i + 1) 0
+  pub skip : getD ns (i + 1) 0 ≤ end + 127
+  pub least : 7 ≤ getD ns (i + 2) 0
+  pub longest : getD ns (i + 2) 0 ≤ 82
+  pub numbered : getD ns i 0 ≤ most
+  pub ends : getD ns (i + 1) 0 + getD ns (i + 2) 0 ≤ most
+
+abbrev pub reachedAt : ℕ → ℕ → ℕ → ℕ → Reached
+reachedAt at number end used = record { at = at; number = number; end = end; used = used }
+
+-- The entries from a place on, and their bytes.
+abbrev pub unwritten : List ℕ → Reached → List Entry
+unwritten ns p = entriesOf (drop (p .at) ns)
+
+abbrev pub bytesLeft : List ℕ → Reached → List ℕ
+bytesLeft ns p = bytesFrom (tip (p .number) (p .end)) (unwritten ns p)
+
+-- The order of the rest is the order of all; the bytes counted so far and those of the rest are all of them.
+pub record Planning (ns : List ℕ) (p : Reached) : Type 0 where
+  pub low : Low (length ns) (p .at) (p .number) (p .end)
+  pub order : inOrder origin (entriesOf ns) ≡ inOrder (tip (p .number) (p .end)) (unwritten ns p)
+  pub threes : length ns % 3 ≡ (length ns - p .at) % 3
+  pub counts : length (indexBytes (entriesOf ns)) ≡ p .used + length (bytesLeft ns p)
+  pub few : p .used ≤ 5 * p .at
+
+-- The entries from a place on are in order.
+pub record Ordered (ns : List ℕ) (i number end : ℕ) : Type 0 where
+  pub inside : i ≤ length ns
+  pub order : inOrder (tip number end) (entriesOf (drop i ns)) ≡ true
+
+-- An entry whose gaps take a byte each.
+pub record Close (ns : List ℕ) (i number end : ℕ) : Type 0 where
+  pub inside : i + 3 ≤ length ns
+  pub gap : getD ns i 0 - number < 128
+  pub skip : getD ns (i + 1) 0 - end < 128
+
+-- The entries from a place on, whose bytes are still to be put: they are in order, and there is room.
+pub record Putting (ns out : List ℕ) (p : Reached) : Type 0 where
+  pub ordered : Ordered ns (p .at) (p .number) (p .end)
+  pub room : p .used + length (bytesLeft ns p) ≤ length out
+
+pub record PutsOn (ns out : List ℕ) (p : Reached) (left : List ℕ) (q : Reached) : Type 0 where
+  pub on : p .at ≤ q .at
+  pub puts : Putting ns left q
+  pub writes : wrote (held (q .used) left) (bytesLeft ns q) ≡ wrote (held (p .used) out) (bytesLeft ns p)

@@ -5,7 +5,7 @@ use native.Mathlib.Omega.{arith}
 use lib.ListN.{length, getD, length-set}
 use Rattle.index.specs.Answers.{numbersOf}
 use Rattle.index.specs.Places.{Near, laidAt, LaysOn}
-use Rattle.index.proofs.Storing.{three-room}
+use Rattle.index.proofs.Threes.{three-room}
 use Rattle.index.proofs.Laying.{Turn, turn, lays-start, lays-next}
 use Rattle.index.proofs.reading.lay.Statement.{statement}
 use Rattle.index.proofs.reading.lay.Tie as tie

@@ -4,7 +4,7 @@ use mathlib.Core.Path.{refl}
 use native.Mathlib.Omega.{arith}
 use lib.ListN.{length-set}
 use Rattle.index.specs.Answers.{numbersOf}
-use Rattle.index.proofs.Storing.{three-room}
+use Rattle.index.proofs.Threes.{three-room}
 use borrow.Author.Needs.{needs}
 use Rattle.index.proofs.reading.lay_one.Statement.{statement}
 use Rattle.index.proofs.reading.lay_one.Tie as tie
