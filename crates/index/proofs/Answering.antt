@@ -1,5 +1,5 @@
 -- What reading, adding and writing answer, from what the bytes read as.
-use Prim.Native.Nat.{ℕ, zero, suc, _+_, _-_, _*_, _/_, _%_, _≤_, _<_}
+use Prim.Native.Nat.{ℕ, _+_, _-_, _*_, _/_, _%_, _≤_, _<_}
 use mathlib.Core.Path.{_≡_, refl, sym, ap, _∙_}
 use mathlib.Core.Bool.{Bool, true, false}
 use mathlib.Core.List.{List, [], _∷_, _++_}
@@ -18,7 +18,7 @@ use Rattle.index.specs.declared.reading.Listed.{Listed}
 use Rattle.index.specs.declared.reading.Scanned.{Scanned}
 use Rattle.index.specs.Index.{origin, fits, inOrder, entryBytes, indexBytes, Listing, listed, noIndex, readIndex, pick}
 use Rattle.index.specs.Answers.{numbersOf, entriesOf, entriesIn, areEntries, writtenIndex, leftIndex, listing, listedFor, laidFor}
-use Rattle.index.specs.Answers.{lastOf, addedTo, addedIndex, grownBy, leftAdded}
+use Rattle.index.specs.Answers.{lastOf, addedTo, addedIndex, leftAdded}
 use Rattle.index.specs.Places.{scanOf, reachedAt, Putting}
 
 -- Going over the bytes tells whether they are an index, how many entries it has, and the last.

@@ -1,6 +1,6 @@
 -- The numbers of an index's entries, laid one after another: since the bytes from a place on read as entries, the next of them is one that
 -- fits, there is room for its numbers, and the bytes behind it read as the others.
-use Prim.Native.Nat.{ℕ, suc, _+_, _≤_, _<_}
+use Prim.Native.Nat.{ℕ, _+_, _≤_}
 use mathlib.Core.Path.{_≡_, refl, sym, ap, _∙_}
 use mathlib.Core.Bool.{Bool, true, false}
 use mathlib.Core.List.{List, [], _∷_, _++_}
@@ -13,9 +13,9 @@ use Rattle.put.proofs.Chain.{wrote-append, put-whole}
 use Rattle.index.specs.declared.Entry.{Entry}
 use Rattle.index.specs.declared.reading.Laid.{Laid}
 use Rattle.index.specs.declared.Next.the-variants as N
-use Rattle.index.specs.Index.{endOf, fits, entryBehind, entryOf, pick, Listing, listed, noIndex, onto, readFrom, readIndex}
+use Rattle.index.specs.Index.{endOf, fits, entryBehind, Listing, listed, noIndex, onto, readFrom, readIndex}
 use Rattle.index.specs.Answers.{numbersOf, entriesIn, laidFor}
-use Rattle.index.specs.Places.{nextAt, Near, tip, laidAt, unlaid, Lays, LaysOn}
+use Rattle.index.specs.Places.{Near, tip, laidAt, unlaid, Lays, LaysOn}
 use Rattle.index.proofs.Back.{same-entry}
 use Rattle.index.proofs.Parts.{near-is}
 use Rattle.index.proofs.Places.{by, Entered, entered, entered-none, entered-bad}

@@ -1,11 +1,11 @@
 -- Going on over entries of three bytes: each is read as an entry that fits behind the one before it and is not the one wanted, so that what
 -- the rest comes to is the same before it and behind it.
-use Prim.Native.Nat.{ℕ, _+_, _-_, _≤_, _<_}
-use mathlib.Core.Path.{_≡_, refl, sym, ap, _∙_}
-use mathlib.Core.Bool.{Bool, true, false, _&&_}
-use mathlib.Core.List.{List, [], _∷_}
+use Prim.Native.Nat.{ℕ, _+_, _-_, _≤_}
+use mathlib.Core.Path.{_≡_, refl, ap, _∙_}
+use mathlib.Core.Bool.{true, _&&_}
+use mathlib.Core.List.{List}
 use native.Mathlib.Omega.{arith}
-use lib.Dec.{eqb, ltb, leb}
+use lib.Dec.{ltb, leb}
 use lib.ListN.{length, getD, drop}
 use borrow.Author.Tests.{ltb-true, leb-true, ne-eqb}
 use Rattle.digits.proofs.Bools.{and-left, and-right}
@@ -14,7 +14,7 @@ use Rattle.index.specs.declared.Entry.{Entry}
 use Rattle.index.specs.declared.reading.Place.{Place}
 use Rattle.index.specs.Index.{endOf, entryBehind, Listing, listed, noIndex, onto, readFrom}
 use Rattle.index.specs.Answers.{findIn, foundIn}
-use Rattle.index.specs.Places.{Near, Low, Quick, scanOn, Passes}
+use Rattle.index.specs.Places.{Near, Quick, scanOn, Passes}
 use Rattle.index.proofs.Ranges.{Fits, is-fits}
 use Rattle.index.proofs.Back.{same-entry}
 use Rattle.index.proofs.Parts.{near-is}

@@ -1,15 +1,15 @@
 -- An entry at a place of a slice: the bytes behind it are those from the place that is answered on; so reading from a place goes on from
 -- the next.
-use Prim.Native.Nat.{ℕ, zero, suc, _+_, _-_, _≤_, _<_}
+use Prim.Native.Nat.{ℕ, _+_, _-_, _≤_, _<_}
 use mathlib.Core.Path.{_≡_, refl, sym, ap, _∙_}
-use mathlib.Core.List.{List, [], _∷_, _++_}
+use mathlib.Core.List.{List, []}
 use native.Mathlib.Omega.{arith}
 use lib.ListN.{length, drop, length-append, length-drop, drop-of-length-le}
 use lib.Seq.{drop-drop, drop-at}
 use Rattle.index.specs.declared.Entry.{Entry}
 use Rattle.index.specs.declared.Next.{Next}
 use Rattle.index.specs.declared.Next.the-variants as N
-use Rattle.index.specs.Index.{entryBytes, Head, entry, short, bad, entryOf, Listing, listed, noIndex, onto, readFrom}
+use Rattle.index.specs.Index.{entryBytes, Head, entry, short, bad, entryOf, listed, noIndex, onto, readFrom}
 use Rattle.index.specs.Places.{nextAt}
 use Rattle.index.proofs.Ranges.{Fits, fits-is}
 use Rattle.index.proofs.Back.{entry-only, entry-some}

@@ -1,6 +1,6 @@
 -- What writing comes to, entry by entry: the order of the rest decides the order of all, and the bytes counted so far and those of the
 -- rest are all of them.
-use Prim.Native.Nat.{ℕ, zero, suc, _+_, _-_, _*_, _%_, _≤_, _<_}
+use Prim.Native.Nat.{ℕ, _+_, _-_, _%_, _≤_, _<_}
 use mathlib.Core.Path.{_≡_, refl, sym, ap, _∙_}
 use mathlib.Core.Bool.{Bool, true, false, _&&_}
 use mathlib.Core.List.{List, [], _∷_, _++_}
@@ -17,7 +17,7 @@ use Rattle.index.specs.declared.Entry.{Entry}
 use Rattle.index.specs.declared.writing.Reached.{Reached}
 use Rattle.index.specs.Index.{origin, endOf, fits, inOrder, entryBytes, bytesFrom, indexBytes}
 use Rattle.index.specs.Answers.{entriesOf, threeAt, areEntries, writtenIndex}
-use Rattle.index.specs.Places.{tip, Small, reachedAt, unwritten, bytesLeft, Planning}
+use Rattle.index.specs.Places.{tip, Small, reachedAt, bytesLeft, Planning}
 use Rattle.index.proofs.Ranges.{Fits, fits-is, is-fits}
 use Rattle.index.proofs.Threes.{order-next, bytes-next, three-bytes}
 

@@ -1,8 +1,7 @@
 -- What comes behind an entry depends on its number and the end of its line alone: what bytes read as, whether entries are in order, and
 -- their bytes.
-use Prim.Native.Nat.{ℕ, _+_}
+use Prim.Native.Nat.{ℕ}
 use mathlib.Core.Path.{_≡_, refl}
-use mathlib.Core.Bool.{Bool}
 use mathlib.Core.List.{List, [], _∷_}
 use Rattle.index.specs.declared.Entry.{Entry}
 use Rattle.index.specs.Index.{endOf, fits, inOrder, entryBytes, bytesFrom, lengthOf, skipOf, entryOf, turnsFrom, readFrom}

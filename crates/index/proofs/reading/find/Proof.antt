@@ -1,5 +1,5 @@
 -- Where the bytes are an index, what was found on the way is what there is to find.
-use mathlib.Core.Path.{_≡_, sym, ap, _∙_}
+use mathlib.Core.Path.{sym, ap, _∙_}
 use borrow.Author.Tests.{not-true, not-false}
 use Rattle.index.specs.Index.{readIndex}
 use Rattle.index.specs.Answers.{foundIn}

@@ -1,6 +1,6 @@
 -- Each turn lays the numbers of an entry: since the bytes read as an index, it fits, and there is room for it.
-use Prim.Native.Nat.{_≤_, _<_, _-_, _+_}
-use mathlib.Core.Path.{_≡_, refl, sym, ap, _∙_}
+use Prim.Native.Nat.{_-_, _+_}
+use mathlib.Core.Path.{_≡_, refl}
 use native.Mathlib.Omega.{arith}
 use lib.ListN.{length, getD, length-set}
 use Rattle.index.specs.Answers.{numbersOf}

@@ -1,5 +1,4 @@
 -- Three numbers stored where there is room for all of them.
-use Prim.Native.Nat.{_+_}
 use mathlib.Core.Path.{refl}
 use native.Mathlib.Omega.{arith}
 use lib.ListN.{length-set}

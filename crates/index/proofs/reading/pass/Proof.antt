@@ -1,8 +1,7 @@
 -- The last entry is held by its number, the end of its line and its length; each turn goes over an entry that is not the one wanted.
-use Prim.Native.Nat.{_≤_, _<_, _-_, _+_}
-use mathlib.Core.Path.{_≡_, refl, sym, ap, _∙_}
+use Prim.Native.Nat.{_≤_, _-_}
 use native.Mathlib.Omega.{arith}
-use lib.ListN.{length, getD}
+use lib.ListN.{length}
 use Rattle.index.specs.Index.{endOf}
 use Rattle.index.specs.Places.{Low, Passes}
 use Rattle.index.proofs.Passing.{placed, ending, passes-start, passes-from, pass-next}

@@ -1,5 +1,4 @@
 -- Whether the bytes are an index, and whether there is room, are known before the first number is laid.
-use mathlib.Core.Path.{_≡_, sym, ap, _∙_}
 use native.Mathlib.Omega.{arith}
 use borrow.Author.Tests.{not-true, not-false}
 use Rattle.index.specs.Index.{readIndex}

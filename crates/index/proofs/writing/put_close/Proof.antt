@@ -1,5 +1,5 @@
 -- Each turn puts the three bytes of an entry: the entries are in order, and there is room for their bytes.
-use Prim.Native.Nat.{_≤_, _-_, _+_}
+use Prim.Native.Nat.{_-_, _+_}
 use mathlib.Core.Path.{_≡_, refl}
 use native.Mathlib.Omega.{arith}
 use lib.ListN.{length, getD, length-set}
