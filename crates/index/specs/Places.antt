@@ -1,5 +1,5 @@
--- An entry at a place of n bytes, by the place behind it; what going over an index once gives; and what holds between two places of it
--- that are gone over quickly.
+-- An entry at a place of n bytes, by the place behind it; what going over an index once gives; and, for the loops over entries of three
+-- bytes, what holds at a place of an index or of the numbers to write, and between two places.
 use Prim.Native.Nat.{ℕ, _+_, _-_, _*_, _%_, _≤_, _<_}
 use mathlib.Core.Path.{_≡_}
 use mathlib.Core.List.{List}
@@ -83,10 +83,10 @@ pub record Passes (s : List ℕ) (wanted : ℕ) (p q : Place) : Type 0 where
 abbrev pub tip : ℕ → ℕ → Entry
 tip number end = record { number = number; offset = end; length = 0 }
 
--- The entries from a place on, whose numbers are still to be laid: they read, and there is room.
 abbrev pub laidAt : ℕ → ℕ → ℕ → ℕ → Laid
 laidAt at number end place = record { at = at; number = number; end = end; place = place }
 
+-- The entries from a place on, whose numbers are still to be laid: they read, and there is room.
 abbrev pub unlaid : List ℕ → Laid → List Entry
 unlaid s p = entriesIn (readFrom (tip (p .number) (p .end)) (drop (p .at) s))
 
@@ -95,6 +95,7 @@ pub record Lays (s out : List ℕ) (p : Laid) : Type 0 where
   pub whole : readFrom (tip (p .number) (p .end)) (drop (p .at) s) ≡ listed (unlaid s p)
   pub room : p .place + length (numbersOf (unlaid s p)) ≤ length out
 
+-- From a place to another: the numbers left, laid behind those that are, are the same.
 pub record LaysOn (s out : List ℕ) (p : Laid) (left : List ℕ) (q : Laid) : Type 0 where
   pub on : p .at ≤ q .at
   pub lays : Lays s left q
@@ -146,6 +147,7 @@ pub record Putting (ns out : List ℕ) (p : Reached) : Type 0 where
   pub ordered : Ordered ns (p .at) (p .number) (p .end)
   pub room : p .used + length (bytesLeft ns p) ≤ length out
 
+-- From a place to another: the bytes left, put behind those that are, are the same.
 pub record PutsOn (ns out : List ℕ) (p : Reached) (left : List ℕ) (q : Reached) : Type 0 where
   pub on : p .at ≤ q .at
   pub puts : Putting ns left q
