@@ -1,5 +1,5 @@
 -- What reading, adding and writing answer, from what the bytes read as.
-use Prim.Native.Nat.{ℕ, zero, suc, _+_, _-_, _*_, _/_, _≤_, _<_}
+use Prim.Native.Nat.{ℕ, _+_, _-_, _*_, _/_, _%_, _≤_, _<_}
 use mathlib.Core.Path.{_≡_, refl, sym, ap, _∙_}
 use mathlib.Core.Bool.{Bool, true, false}
 use mathlib.Core.List.{List, [], _∷_, _++_}
@@ -8,6 +8,7 @@ use native.Mathlib.Nat.{sub-zero}
 use lib.Dec.{eqb, ltb}
 use lib.ListN.{length, take, drop}
 use borrow.Author.Tests.{lt-ltb, le-ltb, eq-eqb, ne-eqb, ltb-false}
+use Rattle.digits.proofs.Bools.{and-right}
 use Rattle.put.specs.Wrote.{Held, held, Puts}
 use Rattle.put.proofs.Chain.{put-fits, put-whole}
 use Rattle.sealing.specs.declared.Written.{Written}
@@ -15,10 +16,10 @@ use Rattle.sealing.specs.Written.{refused, wrote}
 use Rattle.index.specs.declared.Entry.{Entry}
 use Rattle.index.specs.declared.reading.Listed.{Listed}
 use Rattle.index.specs.declared.reading.Scanned.{Scanned}
-use Rattle.index.specs.Index.{origin, fits, entryBytes, indexBytes, Listing, listed, noIndex, readIndex, pick}
+use Rattle.index.specs.Index.{origin, fits, inOrder, entryBytes, indexBytes, Listing, listed, noIndex, readIndex, pick}
 use Rattle.index.specs.Answers.{numbersOf, entriesOf, entriesIn, areEntries, writtenIndex, leftIndex, listing, listedFor, laidFor}
-use Rattle.index.specs.Answers.{lastOf, addedTo, addedIndex, grownBy, leftAdded}
-use Rattle.index.specs.Places.{scanOf}
+use Rattle.index.specs.Answers.{lastOf, addedTo, addedIndex, leftAdded}
+use Rattle.index.specs.Places.{scanOf, reachedAt, Putting}
 
 -- Going over the bytes tells whether they are an index, how many entries it has, and the last.
 pub scan-none : (x : Listing) (r : Scanned) → r ≡ scanOf x → r .whole ≡ false → x ≡ noIndex
@@ -57,14 +58,15 @@ module _ (x : Listing) (out : List ℕ) (es : x ≡ listed (entriesIn x)) where
       (omega (arith, numbers-long (entriesIn x))) in
       rw (es, over) (e, refl)
 
-  pub read-all : {count place : ℕ} {left : List ℕ} → length (entriesIn x) ≤ length out / 3 → count ≡ length (entriesIn x)
-      → Puts (held 0 out) (numbersOf (entriesIn x)) (held place left) → {r : Listed} → r ≡ listing 0 count
-      → (r ≡ listedFor x (length out)) × (left ≡ laidFor x out)
-  read-all {count} h c p e =
-      let fits-in : length (numbersOf (entriesIn x)) ≤ length out = omega (arith, numbers-long (entriesIn x)) in
+  pub read-room : length (entriesIn x) ≤ length out / 3 → length (numbersOf (entriesIn x)) ≤ length out
+  read-room h = omega (arith, numbers-long (entriesIn x))
+
+  pub read-all : {count : ℕ} → length (entriesIn x) ≤ length out / 3 → count ≡ length (entriesIn x)
+      → {r : Listed} → r ≡ listing 0 count → r ≡ listedFor x (length out)
+  read-all h c e =
       let room : ltb (length out) (length (numbersOf (entriesIn x))) ≡ false = le-ltb (length out) (length (numbersOf (entriesIn x)))
-      fits-in in
-      rw (es, room) (e ∙ ap (listing 0) c, put-whole p fits-in)
+      (read-room h) in
+      rw (es, room) (e ∙ ap (listing 0) c)
 
 -- What was written had room.
 written-room : (ns : List ℕ) (room : ℕ) → writtenIndex ns room .no ≡ 0 → length (indexBytes (entriesOf ns)) ≤ room
@@ -77,6 +79,25 @@ written-room ns room e = go (areEntries ns) (ltb room (length (indexBytes (entri
     go true true f h = let z : ⊥ = omega arith in absurd z
     go true false f h = ltb-false _ _ f
     go false b f h = let z : ⊥ = omega arith in absurd z
+
+written-order : (ns : List ℕ) (room : ℕ) → writtenIndex ns room .no ≡ 0 → inOrder origin (entriesOf ns) ≡ true
+unfolding writtenIndex
+written-order ns room e = go (areEntries ns) refl e
+  where
+    go : (a : Bool) → areEntries ns ≡ a
+        → pick a (pick (ltb room (length (indexBytes (entriesOf ns)))) (refused 8 0 0) (wrote (length (indexBytes (entriesOf ns)))))
+        (refused 5 0 0) .no ≡ 0 → inOrder origin (entriesOf ns) ≡ true
+    go true f h = and-right (eqb (length ns % 3) 0) _ f
+    go false f h = let z : ⊥ = omega arith in absurd z
+
+-- So its bytes can be put.
+pub written-puts : (ns out : List ℕ) {r : Written} → r ≡ writtenIndex ns (length out) → r .no ≡ 0 → Putting ns out (reachedAt 0 0 0 0)
+written-puts ns out e z =
+    let done : writtenIndex ns (length out) .no ≡ 0 = sym (ap (λ (w : Written). w .no) e) ∙ z in
+    record {
+      ordered = record { inside = omega arith; order = written-order ns (length out) done };
+      room = omega (arith, written-room ns (length out) done);
+    }
 
 -- Adding: the answer, and the buffer after it.
 pub record Adds (buffer : List ℕ) (used : ℕ) (e : Entry) (answer : Written) (left : List ℕ) : Type 0 where

@@ -14,7 +14,7 @@ use Rattle.index.specs.Index.{endOf, fits, entryBytes, Head, entry, shor
 use Rattle.index.specs.Index.{entryOf}
 use Rattle.index.proofs.Ranges.{Fits, fits-is}
 
-same-entry : (a b : Entry) → a .number ≡ b .number → a .offset ≡ b .offset → a .length ≡ b .length → a ≡ b
+pub same-entry : (a b : Entry) → a .number ≡ b .number → a .offset ≡ b .offset → a .length ≡ b .length → a ≡ b
 same-entry a b p q r =
     ap (λ (n : ℕ). record { number = n; offset = a .offset; length = a .length }) p
     ∙ ap (λ (n : ℕ). record { number = b .number; offset = n; length = a .length }) q

@@ -4,10 +4,14 @@ pub mod Back
 pub mod ReadLaws
 pub mod Places
 pub mod Scanning
-pub mod Storing
+pub mod Passing
+pub mod Walking
+pub mod Tips
+pub mod Laying
+pub mod Threes
 pub mod Planning
+pub mod Putting
 pub mod Answering
 pub mod Lists
 pub mod Turns
 pub mod Promises
-pub mod Walking

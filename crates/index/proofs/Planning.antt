@@ -1,114 +1,137 @@
--- What writing comes to, entry by entry: the order of the rest decides the order of all; the bytes counted so far and those of the rest are
--- all of them, as long as there was room.
-use Prim.Native.Nat.{ℕ, zero, suc, _+_, _-_, _%_, _≤_, _<_}
+-- What writing comes to, entry by entry: the order of the rest decides the order of all, and the bytes counted so far and those of the
+-- rest are all of them.
+use Prim.Native.Nat.{ℕ, _+_, _-_, _%_, _≤_, _<_}
 use mathlib.Core.Path.{_≡_, refl, sym, ap, _∙_}
 use mathlib.Core.Bool.{Bool, true, false, _&&_}
 use mathlib.Core.List.{List, [], _∷_, _++_}
 use native.Mathlib.Omega.{arith}
 use native.Mathlib.Nat.{sub-zero}
 use lib.Dec.{eqb, ltb, leb}
-use lib.ListN.{length, drop, length-append, length-drop}
-use borrow.Author.Tests.{lt-ltb, le-ltb, eq-eqb, ne-eqb, leb-true, leb-false}
+use lib.ListN.{length, getD, drop, length-append}
+use borrow.Author.Tests.{lt-ltb, le-ltb, eq-eqb, ne-eqb, ltb-true, leb-true}
 use Rattle.digits.proofs.Bools.{and-left, and-right}
-use Rattle.sealing.specs.declared.Written.{Written}
 use Rattle.sealing.specs.Written.{refused, wrote}
+use Rattle.sevens.specs.Sevens.{most, sevens}
+use Rattle.sevens.proofs.Groups.{sevens-most}
 use Rattle.index.specs.declared.Entry.{Entry}
-use Rattle.index.specs.Index.{origin, fits, inOrder, entryBytes, bytesFrom, indexBytes, pick}
-use Rattle.index.specs.Answers.{entriesOf, threeAt, areEntries, writtenIndex, leftIndex}
-use Rattle.index.proofs.Storing.{three-next, three-none}
+use Rattle.index.specs.declared.writing.Reached.{Reached}
+use Rattle.index.specs.Index.{origin, endOf, fits, inOrder, entryBytes, bytesFrom, indexBytes}
+use Rattle.index.specs.Answers.{entriesOf, threeAt, areEntries, writtenIndex}
+use Rattle.index.specs.Places.{tip, Small, reachedAt, bytesLeft, Planning}
+use Rattle.index.proofs.Ranges.{Fits, fits-is, is-fits}
+use Rattle.index.proofs.Threes.{order-next, bytes-next, three-bytes}
 
-pub record Planning (ns : List ℕ) (room : ℕ) (last : Entry) (i used : ℕ) (enough : Bool) : Type 0 where
-  pub order : inOrder origin (entriesOf ns) ≡ inOrder last (entriesOf (drop i ns))
-  pub threes : length ns % 3 ≡ (length ns - i) % 3
-  pub within : used ≤ room
-  pub counts : enough ≡ true → length (indexBytes (entriesOf ns)) ≡ used + length (bytesFrom last (entriesOf (drop i ns)))
-  pub full : enough ≡ false → room < length (indexBytes (entriesOf ns))
+-- The tests that the code makes of three numbers.
+abbrev tested : List ℕ → ℕ → ℕ → ℕ → Bool
+tested ns i number end =
+    ltb number (getD ns i 0) && (leb (getD ns i 0) (number + 127) && (leb end (getD ns (i + 1) 0) &&
+    (leb (getD ns (i + 1) 0) (end + 127) && (leb 7 (getD ns (i + 2) 0) && leb (getD ns (i + 2) 0) 82))))
 
-pub planning-start : (ns : List ℕ) (room : ℕ) → Planning ns room origin 0 0 true
-planning-start ns room =
+pub tested-low : (ns : List ℕ) (i number end : ℕ) → tested ns i number end ≡ true
+    → (getD ns (i + 1) 0 ≤ end + 127) × (getD ns (i + 2) 0 ≤ 82)
+tested-low ns i number end t =
+    let b = and-right (ltb number (getD ns i 0)) _ t in
+    let c = and-right (leb (getD ns i 0) (number + 127)) _ b in
+    let d = and-right (leb end (getD ns (i + 1) 0)) _ c in
+    let f = and-right (leb (getD ns (i + 1) 0) (end + 127)) _ d in
+    (leb-true _ _ (and-left _ _ d), leb-true _ _ (and-right (leb 7 (getD ns (i + 2) 0)) _ f))
+
+pub is-small : (ns : List ℕ) (i number end : ℕ) → i + 3 ≤ length ns → tested ns i number end ≡ true
+    → leb (getD ns i 0) most && leb (getD ns (i + 1) 0 + getD ns (i + 2) 0) most ≡ true → Small ns i number end
+is-small ns i number end l t u =
+    let b = and-right (ltb number (getD ns i 0)) _ t in
+    let c = and-right (leb (getD ns i 0) (number + 127)) _ b in
+    let d = and-right (leb end (getD ns (i + 1) 0)) _ c in
+    let f = and-right (leb (getD ns (i + 1) 0) (end + 127)) _ d in
+    let low = tested-low ns i number end t in
     record {
-      order = refl;
-      threes = ap (λ (n : ℕ). n % 3) (sym (sub-zero (length ns)));
-      within = omega arith;
-      counts = λ t. omega arith;
-      full = λ t. let z : _≡_ {A = ℕ} 0 1 = cc in let n : ⊥ = omega arith in absurd n;
+      inside = l;
+      later = ltb-true _ _ (and-left _ _ t);
+      gap = leb-true _ _ (and-left _ _ b);
+      behind = leb-true _ _ (and-left _ _ c);
+      skip = low .0;
+      least = leb-true _ _ (and-left _ _ f);
+      longest = low .1;
+      numbered = leb-true _ _ (and-left _ _ u);
+      ends = leb-true _ _ (and-right (leb (getD ns i 0) most) _ u);
     }
 
-and-none : (a b : Bool) → a && b ≡ false → b ≡ true → a ≡ false
-and-none true b e f = let z : _≡_ {A = ℕ} 0 1 = cc in let n : ⊥ = omega arith in absurd n
-and-none false b e f = refl
+-- An entry takes at most fifteen bytes.
+pub entry-most : (before e : Entry) → length (entryBytes before e) ≤ 15
+unfolding entryBytes
+entry-most before e =
+    omega (
+      arith,
+      length-append (sevens (e .number - before .number)) (sevens (e .offset - endOf before) ++ sevens (e .length)),
+      length-append (sevens (e .offset - endOf before)) (sevens (e .length)),
+      sevens-most (e .number - before .number),
+      sevens-most (e .offset - endOf before),
+      sevens-most (e .length),
+    )
+
+pub planning-start : (ns : List ℕ) → Planning ns (reachedAt 0 0 0 0)
+planning-start ns =
+    record {
+      low = record { inside = omega arith; numbered = omega arith; ends = omega arith };
+      order = refl;
+      threes = ap (λ (n : ℕ). n % 3) (sym (sub-zero (length ns)));
+      counts = omega arith;
+      few = omega arith;
+    }
+
+-- The same count by another name.
+pub planning-as : {ns : List ℕ} {i number end used more : ℕ} → used ≡ more → Planning ns (reachedAt i number end used)
+    → Planning ns (reachedAt i number end more)
+planning-as e x = rw e at x
 
 and-false : (a : Bool) → a && false ≡ false
 and-false true = refl
 and-false false = refl
 
-module _ {ns : List ℕ} {room : ℕ} {last : Entry} {i used : ℕ} {enough : Bool} (x : Planning ns room last i used enough) where
-  bytes-next : i + 3 ≤ length ns
-      → length (bytesFrom last (entriesOf (drop i ns))) ≡ length (entryBytes last (threeAt ns i)) + length
-      (bytesFrom (threeAt ns i) (entriesOf (drop (i + 3) ns)))
-  unfolding bytesFrom
-  bytes-next l = rw (three-next ns i l)
-      (length-append (entryBytes last (threeAt ns i)) (bytesFrom (threeAt ns i) (entriesOf (drop (i + 3) ns))))
-
-  order-next : i + 3 ≤ length ns → inOrder last (entriesOf (drop i ns)) ≡
-      (fits last (threeAt ns i) && inOrder (threeAt ns i) (entriesOf (drop (i + 3) ns)))
-  unfolding inOrder
-  order-next l = rw (three-next ns i l)
-
-  -- The entry at place i fits, and its bytes are counted where there is still room.
-  pub planning-next : {e : Entry} {n : ℕ} {more : Bool} {after : ℕ} → i + 3 ≤ length ns → e ≡ threeAt ns i → fits last e ≡ true
-      → n ≡ length (entryBytes last e) → more ≡ (enough && leb n (room - used)) → (more ≡ true → after ≡ used + n) →
-      (more ≡ false → after ≡ used)
-      → Planning ns room e (i + 3) after more
-  planning-next {e} {n} {more} {after} l is f size m taken left =
-      rw is
+module _ {ns : List ℕ} {p : Reached} (x : Planning ns p) where
+  three-next : {n : ℕ} → p .at + 3 ≤ length ns → fits (tip (p .number) (p .end)) (threeAt ns (p .at)) ≡ true
+      → n ≡ length (entryBytes (tip (p .number) (p .end)) (threeAt ns (p .at)))
+      → Planning ns (reachedAt (p .at + 3) (getD ns (p .at) 0) (getD ns (p .at + 1) 0 + getD ns (p .at + 2) 0) (p .used + n))
+  three-next {n} l f size =
+      let fit = fits-is (tip (p .number) (p .end)) (threeAt ns (p .at)) f in
       record {
-        order = x .order ∙ order-next l ∙ rw (← is, f);
+        low = record { inside = l; numbered = fit .number; ends = fit .ends };
+        order = x .order ∙ order-next ns (p .at) (tip (p .number) (p .end)) l ∙ rw f;
         threes = x .threes ∙ (omega arith);
-        within = within-next more refl;
-        counts = λ t.
-            let both : enough && leb n (room - used) ≡ true = sym m ∙ t in
-            omega (arith, x .counts (and-left _ _ both), bytes-next l, taken t, size, ap (λ (d : Entry). length (entryBytes last d)) is);
-        full = λ t. full-next enough refl t;
+        counts = omega (
+          arith,
+          x .counts,
+          size,
+          ap length (bytes-next ns (p .at) (tip (p .number) (p .end)) l),
+          length-append (entryBytes (tip (p .number) (p .end)) (threeAt ns (p .at)))
+              (bytesFrom (tip (getD ns (p .at) 0) (getD ns (p .at + 1) 0 + getD ns (p .at + 2) 0)) (entriesOf (drop (p .at + 3) ns))),
+        );
+        few = omega (arith, x .few, size, entry-most (tip (p .number) (p .end)) (threeAt ns (p .at)));
       }
-    where
-      within-next : (t : Bool) → more ≡ t → after ≤ room
-      within-next true t =
-          let both : enough && leb n (room - used) ≡ true = sym m ∙ t in
-          omega (arith, taken t, x .within, leb-true n (room - used) (and-right enough _ both))
-      within-next false t = omega (arith, left t, x .within)
 
-      full-next : (b : Bool) → enough ≡ b → more ≡ false → room < length (indexBytes (entriesOf ns))
-      full-next false g t = x .full g
-      full-next true g t =
-          let over : leb n (room - used) ≡ false = sym (ap (λ (b : Bool). b && leb n (room - used)) g) ∙ sym m ∙ t in
-          omega (
-            arith,
-            x .counts g,
-            bytes-next l,
-            size,
-            ap (λ (d : Entry). length (entryBytes last d)) is,
-            leb-false n (room - used)
-                over,
-            x .within,
-          )
+  -- The entry at the place fits, and its bytes are counted.
+  pub planning-next : {e : Entry} {n : ℕ} → p .at + 3 ≤ length ns → e ≡ threeAt ns (p .at) → fits (tip (p .number) (p .end)) e ≡ true
+      → n ≡ length (entryBytes (tip (p .number) (p .end)) e) → Planning ns (reachedAt (p .at + 3) (e .number) (endOf e) (p .used + n))
+  planning-next l is f size = rw is (three-next l (rw is at f) (rw is at size))
 
   -- An entry that does not fit, numbers that are not threes, no room, and all of it.
-  pub planned-unfit : {e : Entry} → i + 3 ≤ length ns → e ≡ threeAt ns i → fits last e ≡ false → refused 5 0 0 ≡ writtenIndex ns room
+  pub planned-unfit : {e : Entry} → p .at + 3 ≤ length ns → e ≡ threeAt ns (p .at) → fits (tip (p .number) (p .end)) e ≡ false → (room : ℕ)
+      → refused 5 0 0 ≡ writtenIndex ns room
   unfolding writtenIndex
-  planned-unfit {e} l is f =
-      let none : inOrder origin (entriesOf ns) ≡ false = x .order ∙ order-next l ∙ rw (← is, f) in
+  planned-unfit {e} l is f room =
+      let none : inOrder origin (entriesOf ns) ≡ false = x .order ∙ order-next ns (p .at) (tip (p .number) (p .end)) l ∙
+      rw (← is, f) in
       rw (none, and-false (eqb (length ns % 3) 0))
 
-  pub planned-threes : length ns - i < 3 → i ≤ length ns → (i ≡ length ns → ⊥) → refused 5 0 0 ≡ writtenIndex ns room
+  pub planned-threes : length ns - p .at < 3 → (p .at ≡ length ns → ⊥) → (room : ℕ) → refused 5 0 0 ≡ writtenIndex ns room
   unfolding writtenIndex
-  planned-threes l h n = rw (ne-eqb (length ns % 3) 0 (λ z. omega (arith, x .threes, z, n' n)))
+  planned-threes l n room = rw (ne-eqb (length ns % 3) 0 (λ z. omega (arith, x .threes, z, n' n)))
     where
-      n' : (i ≡ length ns → ⊥) → i < length ns
-      n' k = omega (arith, k)
+      n' : (p .at ≡ length ns → ⊥) → p .at < length ns
+      n' k = omega (arith, k, x .low .inside)
 
-  module _ (i-end : i ≡ length ns) where
-    ended : drop i ns ≡ []
+  module _ (i-end : p .at ≡ length ns) where
+    ended : drop (p .at) ns ≡ []
     ended = rw (i-end) (nothing ns)
       where
         nothing : (l : List ℕ) → drop (length l) l ≡ []
@@ -119,16 +142,34 @@ module _ {ns : List ℕ} {room : ℕ} {last : Entry} {i used : ℕ} {enough : Bo
     unfolding inOrder entriesOf
     good =
         let threes : eqb (length ns % 3) 0 ≡ true = eq-eqb (length ns % 3) 0 (omega (arith, x .threes, i-end)) in
-        let none : inOrder last (entriesOf (drop i ns)) ≡ true = rw ended in
+        let none : inOrder (tip (p .number) (p .end)) (entriesOf (drop (p .at) ns)) ≡ true = rw ended in
         rw (threes, x .order, none)
 
-    pub planned-full : enough ≡ false → refused 8 0 0 ≡ writtenIndex ns room
-    unfolding writtenIndex
-    planned-full t = rw (good, lt-ltb room (length (indexBytes (entriesOf ns))) (x .full t))
+    all : length (indexBytes (entriesOf ns)) ≡ p .used
+    unfolding bytesFrom entriesOf
+    all =
+        let none : length (bytesLeft ns p) ≡ 0 = rw ended in
+        omega (arith, x .counts, none)
 
-    pub planned-all : enough ≡ true → wrote used ≡ writtenIndex ns room
-    unfolding writtenIndex bytesFrom entriesOf
-    planned-all t =
-        let none : length (bytesFrom last (entriesOf (drop i ns))) ≡ 0 = rw ended in
-        let all : length (indexBytes (entriesOf ns)) ≡ used = omega (arith, x .counts t, none) in
-        rw (good, all, le-ltb room used (x .within))
+    pub planned-full : (room : ℕ) → room < p .used → refused 8 0 0 ≡ writtenIndex ns room
+    unfolding writtenIndex
+    planned-full room h = rw (good, all, lt-ltb room (p .used) h)
+
+    pub planned-all : (room : ℕ) → p .used ≤ room → wrote (p .used) ≡ writtenIndex ns room
+    unfolding writtenIndex
+    planned-all room h = rw (good, all, le-ltb room (p .used) h)
+
+-- An entry of three bytes.
+pub planning-small : {ns : List ℕ} {i number end used : ℕ} → Planning ns (reachedAt i number end used) → Small ns i number end
+    → Planning ns (reachedAt (i + 3) (getD ns i 0) (getD ns (i + 1) 0 + getD ns (i + 2) 0) (used + 3))
+planning-small {ns} {i} {number} {end} x q =
+    let fit : Fits (tip number end) (threeAt ns i) = record {
+      later = q .later;
+      number = q .numbered;
+      behind = omega (arith, q .behind);
+      least = q .least;
+      longest = q .longest;
+      ends = q .ends;
+    } in
+    let bytes = three-bytes ns i number end (omega (arith, q .gap)) (omega (arith, q .skip)) (omega (arith, q .longest)) in
+    planning-next x {e = threeAt ns i} {n = 3} (q .inside) refl (is-fits (tip number end) (threeAt ns i) fit) (ap length bytes)

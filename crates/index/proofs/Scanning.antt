@@ -1,24 +1,17 @@
 -- Going over an index: what is known so far, and what the rest reads as, give what the whole comes to.
-use Prim.Native.Nat.{ℕ, zero, suc, _+_, _≤_, _<_}
-use mathlib.Core.Path.{_≡_, refl, sym, ap, ap₂, _∙_}
+use Prim.Native.Nat.{ℕ, suc, _+_}
+use mathlib.Core.Path.{_≡_, refl, ap}
 use mathlib.Core.Bool.{Bool, true, false, _&&_}
 use mathlib.Core.List.{List, [], _∷_}
 use native.Mathlib.Omega.{arith}
-use native.Mathlib.Nat.{zero-add, add-zero}
 use lib.Dec.{eqb}
 use lib.ListN.{length}
-use borrow.Author.Tests.{ne-eqb, eqb-true}
 use Rattle.index.specs.declared.Entry.{Entry}
 use Rattle.index.specs.declared.reading.Found.{Found}
 use Rattle.index.specs.declared.reading.Scanned.{Scanned}
 use Rattle.index.specs.Index.{origin, Listing, listed, noIndex, onto, pick}
 use Rattle.index.specs.Answers.{lastOf, finding, findIn, foundIn, bestOf}
-use Rattle.index.specs.Places.{scanOf}
-
--- How many entries, and the last of them.
-abbrev pub scanOn : ℕ → Entry → Listing → Scanned
-scanOn count last (listed es) = record { whole = true; count = count + length es; last = lastOf last es }
-scanOn count last noIndex = scanOf noIndex
+use Rattle.index.specs.Places.{scanOf, scanOn}
 
 counted : (n m : ℕ) (e : Entry) → n ≡ m → _≡_ {A = Scanned} (record { whole = true; count = n; last = e })
     (record { whole = true; count = m; last = e })
@@ -62,9 +55,6 @@ find-end best k number = go (eqb (best .no) 12) refl
     go : (t : Bool) → eqb (best .no) 12 ≡ t → best ≡ pick t (finding 12 0 0) best
     go true e = k .none e
     go false e = refl
-
-pub find-none : (best : Found) (number : ℕ) → finding 11 0 0 ≡ behind best (foundIn number noIndex)
-find-none best number = refl
 
 found-no : (number : ℕ) (es : List Entry) → eqb (findIn number es .no) 11 ≡ false
 unfolding findIn

@@ -94,25 +94,13 @@ pub fn put_entry(out: &mut [u8], at: usize, last: Entry, e: Entry) -> usize
     put_longer(out, at, last, e)
 }
 
-// How many bytes `e` takes behind the entry `last`, number by number.
-fn longer_size(last: Entry, e: Entry) -> usize
+// How many bytes `e` takes behind the entry `last`.
+fn size(last: Entry, e: Entry) -> usize
     ensures { λ r. ⌜ r ≡ length (entryBytes last e) ⌝ }
 {
     let gap = sevens::size(less(e.number, last.number));
     let skip = sevens::size(less(less(e.offset, last.offset), last.length));
     gap + (skip + sevens::size(e.length))
-}
-
-// The same; three numbers of a byte each are seen at once.
-fn size(last: Entry, e: Entry) -> usize
-    ensures { λ r. ⌜ r ≡ length (entryBytes last e) ⌝ }
-{
-    let gap = less(e.number, last.number);
-    let skip = less(less(e.offset, last.offset), last.length);
-    if (gap < 128) & ((skip < 128) & (e.length < 128)) {
-        return 3;
-    }
-    longer_size(last, e)
 }
 
 // What stands at a place behind an entry: the next entry, and the place behind it; an entry whose bytes end too soon,

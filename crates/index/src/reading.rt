@@ -2,12 +2,15 @@
 use crate::Entry;
 use crate::Next;
 ghost use mathlib.Core.Path.{_≡_};
+ghost use mathlib.Core.Bool;
 ghost use mathlib.Core.List.{[], _∷_};
+ghost use Prim.Native.Nat.{_+_, _≤_};
 ghost use lib.ListN.{length};
+ghost use Rattle.sevens.specs.Sevens.{most};
 ghost use Rattle.put.specs.Wrote.{held, Puts};
-ghost use Rattle.index.specs.Index.{noIndex, readIndex};
+ghost use Rattle.index.specs.Index.{endOf, noIndex, readIndex};
 ghost use Rattle.index.specs.Answers.{numbersOf, listing, listedFor, laidFor, finding, bestOf, foundIn};
-ghost use Rattle.index.specs.Places.{wholeWith, scanOf, Walks};
+ghost use Rattle.index.specs.Places.{wholeWith, scanOf, Walks, Low, Quick, Starts, Passes, laidAt, Lays, LaysOn};
 
 // What reading an index answers: how many entries it has; or the number of the refusal, and then count 0.
 pub struct Listed {
@@ -28,37 +31,6 @@ fn listing(no: u8, count: usize) -> Listed
     }
 }
 
-// Puts a number into lent numbers, as each put does.
-fn store(out: &mut [u64], at: usize, v: u64) -> usize
-    ensures { λ r. ⌜ Puts (held at (now (out .entry))) (v ∷ []) (held r (now (out .exit))) ⌝ }
-{
-    if at < out.len() {
-        out[at] = v;
-        return at + 1;
-    }
-    at
-}
-
-// Puts the three numbers of an entry.
-fn store_entry(out: &mut [u64], at: usize, e: Entry) -> usize
-    ensures { λ r. ⌜ Puts (held at (now (out .entry))) (numbersOf (e ∷ [])) (held r (now (out .exit))) ⌝ }
-{
-    if out.len() <= at {
-        return at;
-    }
-    if 3 <= out.len() {
-        if at <= out.len() - 3 {
-            out[at] = e.number;
-            out[at + 1] = e.offset;
-            out[at + 2] = e.length;
-            return at + 3;
-        }
-    }
-    let a0 = store(out, at, e.number);
-    let a1 = store(out, a0, e.offset);
-    store(out, a1, e.length)
-}
-
 // Reads the index in `s` to numbers, three an entry, at the start of `entries`. Refused: 11 for bytes that are no index;
 // then 8 where `entries` is too short. A refusal leaves `entries`.
 pub fn read(s: &[u8], entries: &mut [u64]) -> Listed
@@ -72,7 +44,7 @@ pub fn read(s: &[u8], entries: &mut [u64]) -> Listed
     if entries.len() / 3 < scanned.count {
         return listing(8, 0);
     }
-    walk(s, 0, entries);
+    lay_all(s, entries);
     listing(0, scanned.count)
 }
 
@@ -114,22 +86,16 @@ pub struct Scanned {
     pub last: Entry,
 }
 
-// The same, with what was found and the place behind the numbers that were stored.
+// The same, with what was found.
 struct Walked {
     scanned: Scanned,
     best: Found,
-    place: usize,
 }
 
-// An index of so many entries, whose last has these numbers.
-fn whole(count: usize, number: u64, offset: u64, length: u64) -> Scanned
-    ensures { λ r. ⌜ r ≡ wholeWith count number offset length ⌝ }
+// An index of so many entries, and the last of them.
+fn whole(count: usize, last: Entry) -> Scanned
+    ensures { λ r. ⌜ r ≡ wholeWith count last ⌝ }
 {
-    let last = Entry {
-        number,
-        offset,
-        length,
-    };
     Scanned {
         whole: true,
         count,
@@ -137,7 +103,7 @@ fn whole(count: usize, number: u64, offset: u64, length: u64) -> Scanned
     }
 }
 
-fn no_index(place: usize) -> Walked
+fn no_index() -> Walked
     ensures { λ r. ⌜ r .scanned ≡ scanOf noIndex ⌝ }
 {
     let scanned = Scanned {
@@ -148,46 +114,91 @@ fn no_index(place: usize) -> Walked
     Walked {
         scanned,
         best: finding(11, 0, 0),
-        place,
     }
 }
 
-// Goes over the index in `s`: finds the exhibit with a number, and puts the numbers of all entries at the start of `out`.
-fn walk(s: &[u8], number: u64, out: &mut [u64]) -> Walked
-    ensures { λ r. ⌜ Walks (now (s .entry)) number (now (out .entry)) (r .scanned) (r .best) (r .place) (now (out .exit)) ⌝ }
+// Whether an entry of three bytes stands at `at`, behind a number and the end of a line, which fits and is not the one wanted.
+fn is_quick(s: &[u8], at: usize, number: u64, end: u64, wanted: u64) -> bool
+    requires { ⌜ Low (length (now s)) at number end ⌝ }
+    ensures { λ r. ⌜ (r ≡ Bool.true → Quick (now (s .entry)) at number end wanted) ⌝ }
+{
+    if s.len() - at < 3 {
+        return false;
+    }
+    let gap = s[at] as u64;
+    let skip = s[at + 1] as u64;
+    let bytes = s[at + 2] as u64;
+    if !((0 < gap) & ((gap < 128) & ((skip < 128) & ((7 <= bytes) & (bytes <= 82))))) {
+        return false;
+    }
+    if number + gap == wanted {
+        return false;
+    }
+    (number + gap <= 4294967295) & (end + skip + bytes <= 4294967295)
+}
+
+// A place in an index: behind how many entries it is, and the last of them.
+struct Place {
+    at: usize,
+    count: usize,
+    last: Entry,
+}
+
+// Goes on over entries of three bytes, up to the one wanted.
+fn pass(s: &[u8], from: Place, wanted: u64) -> Place
+    requires { ⌜ Starts (length (now s)) from ⌝ }
+    ensures { λ r. ⌜ Passes (now (s .entry)) wanted from r ⌝ }
+{
+    let last = from.last;
+    let mut at = from.at;
+    let mut count = from.count;
+    let mut number = last.number;
+    let mut end = last.offset + last.length;
+    let mut bytes = last.length;
+    while is_quick(s, at, number, end, wanted) {
+        bytes = s[at + 2] as u64;
+        number += s[at] as u64;
+        end += s[at + 1] as u64 + bytes;
+        at += 3;
+        count += 1;
+    }
+    let last = Entry {
+        number,
+        offset: end - bytes,
+        length: bytes,
+    };
+    Place { at, count, last }
+}
+
+// Goes over the index in `s`, and finds the exhibit with a number.
+fn walk(s: &[u8], number: u64) -> Walked
+    ensures { λ r. ⌜ Walks (now (s .entry)) number (r .scanned) (r .best) ⌝ }
 {
     let mut best = finding(12, 0, 0);
-    let mut passed: u64 = 0;
-    let mut offset: u64 = 0;
-    let mut bytes: u64 = 0;
-    let mut at: usize = 0;
-    let mut count: usize = 0;
-    let mut place: usize = 0;
-    while at < s.len() {
-        let last = Entry {
-            number: passed,
-            offset,
-            length: bytes,
-        };
-        let next = crate::entry_at(s, at, last);
+    let mut place = Place {
+        at: 0,
+        count: 0,
+        last: crate::origin(),
+    };
+    while place.at < s.len() {
+        let next = crate::entry_at(s, place.at, place.last);
         match next {
             Next::Is(e, a) => {
                 best = found_next(best, number, e);
-                place = store_entry(out, place, e);
-                passed = e.number;
-                offset = e.offset;
-                bytes = e.length;
-                at = a;
-                count += 1;
+                let behind = Place {
+                    at: a,
+                    count: place.count + 1,
+                    last: e,
+                };
+                place = pass(s, behind, number);
             }
-            Next::Short => return no_index(place),
-            Next::Bad => return no_index(place),
+            Next::Short => return no_index(),
+            Next::Bad => return no_index(),
         }
     }
     Walked {
-        scanned: whole(count, passed, offset, bytes),
+        scanned: whole(place.count, place.last),
         best,
-        place,
     }
 }
 
@@ -195,8 +206,7 @@ fn walk(s: &[u8], number: u64, out: &mut [u64]) -> Walked
 pub fn scan(s: &[u8]) -> Scanned
     ensures { λ r. ⌜ r ≡ scanOf (readIndex (now (s .entry))) ⌝ }
 {
-    let mut scratch = [0u64; 1];
-    let walked = walk(s, 0, &mut scratch);
+    let walked = walk(s, 0);
     walked.scanned
 }
 
@@ -205,11 +215,92 @@ pub fn scan(s: &[u8]) -> Scanned
 pub fn find(s: &[u8], number: u64) -> Found
     ensures { λ r. ⌜ r ≡ foundIn number (readIndex (now (s .entry))) ⌝ }
 {
-    let mut scratch = [0u64; 1];
-    let walked = walk(s, number, &mut scratch);
+    let walked = walk(s, number);
     let scanned = walked.scanned;
     if !scanned.whole {
         return finding(11, 0, 0);
     }
     walked.best
+}
+
+// A place in an index behind an entry with a number and an end, and the place behind the numbers that are laid.
+struct Laid {
+    at: usize,
+    number: u64,
+    end: u64,
+    place: usize,
+}
+
+// Lays the numbers of the entries of three bytes from a place on.
+fn lay(s: &[u8], out: &mut [u64], from: Laid) -> Laid
+    requires { ⌜ Lays (now s) (now out) from ⌝ }
+    ensures { λ r. ⌜ LaysOn (now (s .entry)) (now (out .entry)) from (now (out .exit)) r ⌝ }
+{
+    let mut at = from.at;
+    let mut number = from.number;
+    let mut end = from.end;
+    let mut place = from.place;
+    while crate::is_near(s, at) {
+        let skip = s[at + 1] as u64;
+        let bytes = s[at + 2] as u64;
+        number += s[at] as u64;
+        out[place] = number;
+        out[place + 1] = end + skip;
+        out[place + 2] = bytes;
+        end += skip + bytes;
+        at += 3;
+        place += 3;
+    }
+    Laid {
+        at,
+        number,
+        end,
+        place,
+    }
+}
+
+// Lays the three numbers of an entry, whose bytes end at `at`.
+fn lay_one(out: &mut [u64], place: usize, e: Entry, at: usize) -> Laid
+    requires { ⌜ (place + 3 ≤ length (now out)) × (endOf e ≤ most) ⌝ }
+    ensures { λ r. ⌜ r ≡ laidAt at (e .number) (endOf e) (place + 3) ⌝ }
+    ensures { λ _. ⌜ Puts (held place (now (out .entry))) (numbersOf (e ∷ [])) (held (place + 3) (now (out .exit))) ⌝ }
+{
+    out[place] = e.number;
+    out[place + 1] = e.offset;
+    out[place + 2] = e.length;
+    Laid {
+        at,
+        number: e.number,
+        end: e.offset + e.length,
+        place: place + 3,
+    }
+}
+
+// Lays the numbers of all entries of an index at the start of `out`.
+fn lay_all(s: &[u8], out: &mut [u64])
+    requires { ⌜ Lays (now s) (now out) (laidAt 0 0 0 0) ⌝ }
+    ensures { λ _. ⌜ now (out .exit) ≡ laidFor (readIndex (now (s .entry))) (now (out .entry)) ⌝ }
+{
+    let mut laid = Laid {
+        at: 0,
+        number: 0,
+        end: 0,
+        place: 0,
+    };
+    while laid.at < s.len() {
+        let last = Entry {
+            number: laid.number,
+            offset: laid.end,
+            length: 0,
+        };
+        let next = crate::entry_at(s, laid.at, last);
+        match next {
+            Next::Is(e, a) => {
+                let behind = lay_one(out, laid.place, e, a);
+                laid = lay(s, out, behind);
+            }
+            Next::Short => return,
+            Next::Bad => return,
+        }
+    }
 }

@@ -2,12 +2,14 @@
 use crate::Entry;
 use sealing::Written;
 ghost use mathlib.Core.Path.{_≡_};
+ghost use mathlib.Core.Bool;
 ghost use Prim.Native.Nat.{_+_, _≤_};
 ghost use lib.ListN.{length};
 ghost use Rattle.put.specs.Wrote.{held, Puts};
 ghost use Rattle.sealing.specs.Written.{wrote};
 ghost use Rattle.index.specs.Index.{indexBytes};
 ghost use Rattle.index.specs.Answers.{entriesOf, threeAt, writtenIndex, leftIndex, addedIndex, leftAdded};
+ghost use Rattle.index.specs.Places.{Low, Small, reachedAt, Planning, Ordered, Close, Putting, PutsOn};
 
 // Adds `e` at the end of the index in the first `used` bytes of `index`, and answers the length of the index then.
 // Refused: 11 where these bytes are no index or `used` passes the end; 5 where `e` does not fit behind the last entry; 8
@@ -27,7 +29,7 @@ pub fn add(index: &mut [u8], used: usize, e: Entry) -> Written
     if !crate::fits(last, e) {
         return sealing::refuse(5, 0, 0);
     }
-    let n = crate::longer_size(last, e);
+    let n = crate::size(last, e);
     if index.len() - used < n {
         return sealing::refuse(8, 0, 0);
     }
@@ -58,50 +60,160 @@ fn three(entries: &[u64], i: usize) -> Entry
     }
 }
 
+// A place in the numbers behind an entry with a number and an end, and how many bytes the entries before the place take.
+struct Reached {
+    at: usize,
+    number: u64,
+    end: u64,
+    used: usize,
+}
+
+// Whether an entry of three bytes stands at `i`, behind a number and the end of a line, which fits.
+fn is_small(entries: &[u64], i: usize, number: u64, end: u64) -> bool
+    requires { ⌜ Low (length (now entries)) i number end ⌝ }
+    ensures { λ r. ⌜ (r ≡ Bool.true → Small (now (entries .entry)) i number end) ⌝ }
+{
+    if entries.len() - i < 3 {
+        return false;
+    }
+    let n = entries[i];
+    let offset = entries[i + 1];
+    let bytes = entries[i + 2];
+    if !((number < n)
+        & ((n <= number + 127)
+            & ((end <= offset) & ((offset <= end + 127) & ((7 <= bytes) & (bytes <= 82)))))) {
+        return false;
+    }
+    (n <= 4294967295) & (offset + bytes <= 4294967295)
+}
+
+// Goes on over entries of three bytes that fit.
+fn plan(entries: &[u64], from: Reached) -> Reached
+    requires { ⌜ Planning (now entries) from ⌝ }
+    ensures { λ r. ⌜ Planning (now (entries .entry)) r ⌝ }
+    ensures { λ r. ⌜ from .at ≤ r .at ⌝ }
+{
+    let mut i = from.at;
+    let mut number = from.number;
+    let mut end = from.end;
+    while is_small(entries, i, number, end) {
+        number = entries[i];
+        end = entries[i + 1] + entries[i + 2];
+        i += 3;
+    }
+    Reached {
+        at: i,
+        number,
+        end,
+        used: from.used + (i - from.at),
+    }
+}
+
 // What writing the entries comes to in so much room.
 fn planned(entries: &[u64], room: usize) -> Written
     ensures { λ r. ⌜ r ≡ writtenIndex (now (entries .entry)) room ⌝ }
 {
-    let mut last = crate::origin();
-    let mut i: usize = 0;
-    let mut used: usize = 0;
-    let mut enough = true;
-    while 3 <= entries.len() - i {
-        let e = three(entries, i);
+    let mut reached = Reached {
+        at: 0,
+        number: 0,
+        end: 0,
+        used: 0,
+    };
+    while 3 <= entries.len() - reached.at {
+        let last = Entry {
+            number: reached.number,
+            offset: reached.end,
+            length: 0,
+        };
+        let e = three(entries, reached.at);
         if !crate::fits(last, e) {
             return sealing::refuse(5, 0, 0);
         }
-        let n = crate::size(last, e);
-        enough = enough & (n <= room - used);
-        if enough {
-            used += n;
-        }
-        last = e;
-        i += 3;
+        let behind = Reached {
+            at: reached.at + 3,
+            number: e.number,
+            end: e.offset + e.length,
+            used: reached.used + crate::size(last, e),
+        };
+        reached = plan(entries, behind);
     }
-    if i != entries.len() {
+    if reached.at != entries.len() {
         return sealing::refuse(5, 0, 0);
     }
-    if !enough {
+    if room < reached.used {
         return sealing::refuse(8, 0, 0);
     }
-    wrote(used)
+    wrote(reached.used)
+}
+
+// Whether an entry stands at `i`, and both gaps behind a number and the end of a line take a byte.
+fn is_close(entries: &[u64], i: usize, number: u64, end: u64) -> bool
+    requires { ⌜ Ordered (now entries) i number end ⌝ }
+    ensures { λ r. ⌜ (r ≡ Bool.true → Close (now (entries .entry)) i number end) ⌝ }
+{
+    if entries.len() - i < 3 {
+        return false;
+    }
+    (entries[i] - number < 128) & (entries[i + 1] - end < 128)
+}
+
+// Puts the bytes of the entries from a place on, as long as each takes three.
+fn put_close(out: &mut [u8], entries: &[u64], from: Reached) -> Reached
+    requires { ⌜ Putting (now entries) (now out) from ⌝ }
+    ensures { λ r. ⌜ PutsOn (now (entries .entry)) (now (out .entry)) from (now (out .exit)) r ⌝ }
+{
+    let mut i = from.at;
+    let mut number = from.number;
+    let mut end = from.end;
+    let mut place = from.used;
+    while is_close(entries, i, number, end) {
+        let n = entries[i];
+        let offset = entries[i + 1];
+        let bytes = entries[i + 2];
+        out[place] = (n - number) as u8;
+        out[place + 1] = (offset - end) as u8;
+        out[place + 2] = bytes as u8;
+        number = n;
+        end = offset + bytes;
+        i += 3;
+        place += 3;
+    }
+    Reached {
+        at: i,
+        number,
+        end,
+        used: place,
+    }
 }
 
 // Puts the bytes of all entries at the start of `out`.
 fn put_all(out: &mut [u8], entries: &[u64]) -> usize
+    requires { ⌜ Putting (now entries) (now out) (reachedAt 0 0 0 0) ⌝ }
     ensures { λ r. ⌜ Puts (held 0 (now (out .entry))) (indexBytes (entriesOf (now (entries .entry)))) (held r (now (out .exit))) ⌝ }
 {
-    let mut last = crate::origin();
-    let mut i: usize = 0;
-    let mut place: usize = 0;
-    while 3 <= entries.len() - i {
-        let e = three(entries, i);
-        place = crate::put_entry(out, place, last, e);
-        last = e;
-        i += 3;
+    let mut reached = Reached {
+        at: 0,
+        number: 0,
+        end: 0,
+        used: 0,
+    };
+    while 3 <= entries.len() - reached.at {
+        let last = Entry {
+            number: reached.number,
+            offset: reached.end,
+            length: 0,
+        };
+        let e = three(entries, reached.at);
+        let place = crate::put_longer(out, reached.used, last, e);
+        let behind = Reached {
+            at: reached.at + 3,
+            number: e.number,
+            end: e.offset + e.length,
+            used: place,
+        };
+        reached = put_close(out, entries, behind);
     }
-    place
+    reached.used
 }
 
 // Writes the index of the entries that numbers say, three an entry, into `out`, and answers its length. Refused: 5 where

@@ -3,7 +3,7 @@ use Prim.Native.Nat.{_<_, _+_}
 use native.Mathlib.Omega.{arith}
 use lib.ListN.{length, set, length-set}
 use Rattle.put.proofs.Chain.{_⨾_}
-use Rattle.index.proofs.Storing.{three-room}
+use Rattle.index.proofs.Threes.{three-room}
 use borrow.Author.Needs.{needs}
 use Rattle.index.proofs.put_three.Statement.{statement}
 use Rattle.index.proofs.put_three.Tie as tie

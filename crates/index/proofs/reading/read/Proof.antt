@@ -1,69 +1,78 @@
--- Whether the bytes are an index, and whether there is room, are known before the first number is stored.
-use mathlib.Core.Path.{_≡_, sym, ap, _∙_}
+-- Whether the bytes are an index, and whether there is room, are known before the first number is laid.
 use native.Mathlib.Omega.{arith}
 use borrow.Author.Tests.{not-true, not-false}
 use Rattle.index.specs.Index.{readIndex}
-use Rattle.index.proofs.Answering.{scan-none, scan-whole, read-none, read-full, read-all}
+use Rattle.index.proofs.Answering.{scan-none, scan-whole, read-none, read-full, read-room, read-all}
 use borrow.Author.Needs.{needs}
 use Rattle.index.proofs.reading.read.Statement.{statement}
 use Rattle.index.proofs.reading.read.Tie as tie
 use Rattle.index.proofs.reading.read.Reads as reads
 use Rattle.index.proofs.reading.read.Lts as lts
+use Rattle.index.proofs.reading.lay_all.Reads as lay-all-reads
 use Rattle.index.proofs.reading.listing.Reads as listing-reads
 use Rattle.index.proofs.reading.scan.Reads as scan-reads
-use Rattle.index.proofs.reading.walk.Reads as walk-reads
 
--- src/lib.rt:275:9
+-- src/reading.rt:40:9
 scan-requires : tie.Need-scan-requires
 scan-requires c κs = search needs
 
--- src/lib.rt:277:9
+-- src/reading.rt:42:9
 listing-requires : tie.Need-listing-requires
 listing-requires c κs = search needs
 
--- src/lib.rt:277:9
+-- src/reading.rt:42:9
 returns : tie.Need-returns
-returns c = read-none (readIndex (c .before .before .before .before .before .before .args .s .now))
-    (c .before .before .before .before .before .before .args .entries .now)
-    (scan-none (readIndex (c .before .before .before .before .before .before .args .s .now)) (c .before .before .before .scan .result)
-    (c .before .before .before .scan .ensures) (not-true _ (c .before .if1 .taken))) (c .listing .ensures)
+returns c = let s = c .before .before .before .before .before .before .args .s .now in
+    read-none (readIndex s) (c .before .before .before .before .before .before .args .entries .now)
+    (scan-none (readIndex s) (c .before .before .before .scan .result) (c .before .before .before .scan .ensures) (not-true _ (c .before
+    .if1 .taken))) (c .listing .ensures)
 
--- src/lib.rt:280:9
+-- src/reading.rt:45:9
 listing-requires-2 : tie.Need-listing-requires-2
 listing-requires-2 c κs = search needs
 
--- src/lib.rt:280:9
+-- src/reading.rt:45:9
 returns-2 : tie.Need-returns-2
-returns-2 c = let x = scan-whole (readIndex (c .before .before .before .before .before .before .before .before .args .s .now))
-    (c .before .before .before .before .before .scan .result) (c .before .before .before .before .before .scan .ensures)
-    (not-false _ (c .before .before .before .if1 .left)) in
-    read-full (readIndex (c .before .before .before .before .before .before .before .before .args .s .now))
-    (c .before .before .before .before .before .before .before .before .args .entries .now) (x .reads)
-    (omega (arith, x .count, c .before .if2 .taken)) (c .listing2 .ensures)
+returns-2 c = let s = c .before .before .before .before .before .before .before .before .args .s .now in
+    let x = scan-whole (readIndex s) (c .before .before .before .before .before .scan .result) (c .before .before .before .before .before
+    .scan .ensures) (not-false _ (c .before .before .before .if1 .left)) in
+    read-full (readIndex s) (c .before .before .before .before .before .before .before .before .args .entries .now) (x .reads) (omega
+    (arith, x .count, c .before .if2 .taken)) (c .listing2 .ensures)
 
-walk-requires : tie.Need-walk-requires
-walk-requires c κs = search needs
+-- src/reading.rt:47:5
+lay-all-requires : tie.Need-lay-all-requires
+lay-all-requires c κs = let s = c .before .before .before .before .before .before .before .before .args .s .now in
+    let x = scan-whole (readIndex s) (c .before .before .before .before .before .scan .result) (c .before .before .before .before .before
+    .scan .ensures) (not-false _ (c .before .before .before .if1 .left)) in
+    record {
+      inside = omega arith;
+      whole = x .reads;
+      room = omega (
+        arith,
+        read-room (readIndex s) (c .before .before .before .before .before .before .before .before .args .entries .now) (x .reads) (omega
+            (arith, x .count, c .before .if2 .left)),
+      );
+    }
 
--- src/lib.rt:283:5
+-- src/reading.rt:48:5
 listing-requires-3 : tie.Need-listing-requires-3
 listing-requires-3 c κs = search needs
 
--- src/lib.rt:271:1
+-- src/reading.rt:36:1
 same-length : tie.Need-same-length
 same-length c = search needs
 
--- src/lib.rt:271:1
+-- src/reading.rt:36:1
 returns-3 : tie.Need-returns-3
 returns-3 c = let s = c .before .before .before .before .before .before .before .before .before .before .before .before .args .s .now in
-    let r = c .before .before .before .before .before .before .before .before .before .scan .result in
-    let yes = not-false _ (c .before .before .before .before .before .before .before .if1 .left) in
-    let x = scan-whole (readIndex s) r (c .before .before .before .before .before .before .before .before .before .scan .ensures) yes in
-    let w = c .before .before .before .walk .ensures in
-    let again = ap (λ y. y .whole) (w .goes ∙ sym
-    (c .before .before .before .before .before .before .before .before .before .scan .ensures)) ∙ yes in
-    read-all (readIndex s) (c .before .before .before .before .before .before .before .before .before .before .before .before .args
-    .entries .now) (x .reads) (omega (arith, x .count, c .before .before .before .before .before .if2 .left)) (x .count)
-    (w .stores again) (c .listing3 .ensures)
+    let x = scan-whole (readIndex s) (c .before .before .before .before .before .before .before .before .before .scan .result) (c .before
+    .before .before .before .before .before .before .before .before .scan .ensures) (not-false _ (c .before .before .before .before
+    .before .before .before .if1 .left)) in (
+      read-all (readIndex s) (c .before .before .before .before .before .before .before .before .before .before .before .before .args
+          .entries .now) (x .reads) (omega (arith, x .count, c .before .before .before .before .before .if2 .left)) (x .count)
+          (c .listing3 .ensures),
+      c .before .before .before .lay-all .ensures,
+    )
 
 pub read-spec : {M : Type 1} → statement M
 read-spec =
@@ -74,7 +83,7 @@ read-spec =
     returns
     listing-requires-2
     returns-2
-    walk-requires
+    lay-all-requires
     listing-requires-3
     same-length
     returns-3)

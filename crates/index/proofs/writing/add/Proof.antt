@@ -13,7 +13,7 @@ use Rattle.index.proofs.writing.add.Lts as lts
 use Rattle.index.proofs.fits.Reads as fits-reads
 use Rattle.index.proofs.put_longer.Reads as put-longer-reads
 use Rattle.index.proofs.reading.scan.Reads as scan-reads
-use Rattle.index.proofs.longer_size.Reads as longer-size-reads
+use Rattle.index.proofs.size.Reads as size-reads
 use Rattle.index.proofs.writing.wrote.Reads as wrote-reads
 use Rattle.sealing.proofs.refuse.Reads as refuse-reads
 
@@ -95,8 +95,8 @@ returns-3 c = let x = scan-whole
     (a .answers, a .leaves)
 
 -- src/lib.rt:358:9
-longer-size-requires : tie.Need-longer-size-requires
-longer-size-requires c κs = search needs
+size-requires : tie.Need-size-requires
+size-requires c κs = search needs
 
 -- src/lib.rt:359:8
 sub-if4 : tie.Need-sub-if4
@@ -127,7 +127,7 @@ returns-4 c = let x = scan-whole
     (c .before .before .before .before .before .before .before .before .before .before .before .if1 .left) (x .reads)
     (c .before .before .before .before .before .before .before .before .scan .result .last) (x .last)
     (sym (c .before .before .before .before .fits2 .ensures) ∙ not-false _ (c .before .before .before .if3 .left))
-    (c .before .before .longer-size .result) (c .before .before .longer-size .ensures) (c .before .if4 .taken) (c .refuse4 .ensures) in
+    (c .before .before .size .result) (c .before .before .size .ensures) (c .before .if4 .taken) (c .refuse4 .ensures) in
     (a .answers, a .leaves)
 
 -- src/lib.rt:362:5
@@ -168,8 +168,8 @@ returns-5 c = let x = scan-whole
     .left) (x .reads) (c .before .before .before .before .before .before .before .before .before .before .before .before .scan .result
     .last) (x .last) (sym (c .before .before .before .before .before .before .before .before .fits2 .ensures) ∙ not-false _
     (c .before .before .before .before .before .before .before .if3 .left))
-    (c .before .before .before .before .before .before .longer-size .result)
-    (c .before .before .before .before .before .before .longer-size .ensures) (c .before .before .before .before .before .if4 .left)
+    (c .before .before .before .before .before .before .size .result)
+    (c .before .before .before .before .before .before .size .ensures) (c .before .before .before .before .before .if4 .left)
     (c .before .before .before .put-longer .ensures) (c .wrote .ensures) in
     (a .answers, a .leaves)
 
@@ -190,7 +190,7 @@ add-spec =
     refuse-requires-3
     same-length-2
     returns-3
-    longer-size-requires
+    size-requires
     sub-if4
     refuse-requires-4
     same-length-3

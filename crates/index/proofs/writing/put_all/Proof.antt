@@ -1,83 +1,104 @@
-use Rattle.index.specs.Index.{entryBytes}
--- The bytes of the entries before place i are put: those of the rest, put behind them, are all.
-use Rattle.index.proofs.Storing.{put-next, put-end}
-use Prim.Native.Nat.{_≤_, _<_, _-_, _+_}
-use mathlib.Core.Path.{_≡_, refl, sym, ap, _∙_}
-use mathlib.Core.List.{List, [], _∷_}
+-- The bytes of the entries before the place are put; those of the rest, put behind them, are all.
+use Prim.Native.Nat.{_≤_, _-_, _+_}
+use mathlib.Core.Path.{_≡_, refl, _∙_}
 use native.Mathlib.Omega.{arith}
-use lib.ListN.{length, drop}
-use borrow.Author.Needs.{needs}
-use Rattle.index.specs.Index.{origin, listed, readFrom, readIndex, indexBytes, bytesFrom, inOrder}
-use Rattle.put.specs.Wrote.{held, wrote}
-use Rattle.index.specs.Answers.{entriesOf}
+use lib.ListN.{length}
+use Rattle.index.specs.Index.{endOf}
+use Rattle.index.specs.Places.{tip, reachedAt, PutsOn}
+use Rattle.index.proofs.Ranges.{Fits}
+use Rattle.index.proofs.Putting.{ordered-fits, puts-start, puts-next, puts-on, put-all}
 use Rattle.index.proofs.writing.put_all.Statement.{statement}
 use Rattle.index.proofs.writing.put_all.Tie as tie
 use Rattle.index.proofs.writing.put_all.Reads as reads
 use Rattle.index.proofs.writing.put_all.Lts as lts
-use Rattle.index.proofs.origin.Reads as origin-reads
-use Rattle.index.proofs.put_entry.Reads as put-entry-reads
+use Rattle.index.proofs.put_longer.Reads as put-longer-reads
+use Rattle.index.proofs.writing.put_close.Reads as put-close-reads
 use Rattle.index.proofs.writing.three.Reads as three-reads
 
 abbrev Inv-loop : tie.InvT-loop
-Inv-loop out₀ entries last₀ i₀ place₀ out last i place = (i ≤ length entries) ×
-    ((length out ≡ length out₀) × (wrote (held place out) (bytesFrom last (entriesOf (drop i entries))) ≡ wrote (held 0 out₀)
-    (indexBytes (entriesOf entries))))
+Inv-loop out₀ entries reached₀ out reached = (length out ≡ length out₀) × PutsOn entries out₀ (reachedAt 0 0 0 0) out reached
 
 abbrev μ-loop : tie.MeasureT-loop
-μ-loop out₀ entries last₀ i₀ place₀ out last i place = length entries - i
+μ-loop out₀ entries reached₀ out reached = length entries - reached .at
 
--- src/lib.rt:423:9
-origin-requires : tie.Need-origin-requires Inv-loop μ-loop
-origin-requires c κs = tt
+-- Another entry is there; and what is known behind it, when its bytes were put by themselves.
+more : (c : tie.Then1 Inv-loop μ-loop) → c .before .before .loop .reached .at + 3 ≤ length (c .before .before .before .before .before
+    .args .entries .now)
+more c = omega (arith, c .if1 .taken, c .before .before .loop .inv .1 .puts .ordered .inside)
 
--- src/lib.rt:426:5
+turned : (c : tie.After-put-close-arg Inv-loop μ-loop)
+    → PutsOn (c .before .before .before .before .before .before .before .before .before .before .before .before .before .args .entries
+    .now) (c .before .before .before .before .before .before .before .before .before .before .before .before .before .args .out .now)
+    (reachedAt 0 0 0 0) (c .before .before .before .before .before .put-longer .last .0)
+    (reachedAt (c .before .before .before .before .before .before .before .before .before .before .loop .reached .at + 3) (c .before
+    .before .before .before .before .before .before .three .result .number) (endOf (c .before .before .before .before .before .before
+    .before .three .result)) (c .before .before .before .before .before .put-longer .result))
+turned c = let put = c .before .before .before .before .before .put-longer in
+    puts-next (c .before .before .before .before .before .before .before .before .before .before .loop .inv .1) (more (c .before .before
+    .before .before .before .before .before .before)) (put .kept .0) (c .before .before .before .before .before .before .before .three
+    .ensures) (put .ensures)
+
+-- src/writing.rt:201:5
 loop-holds : tie.Need-loop-holds Inv-loop μ-loop
-loop-holds c = (omega arith, (refl, rw (c .origin .ensures)))
-
--- src/lib.rt:426:16
-sub-loop : tie.Need-sub-loop Inv-loop μ-loop
-sub-loop c = omega arith
-
--- src/lib.rt:427:13
-three-requires : tie.Need-three-requires Inv-loop μ-loop
-three-requires c κs = omega arith
-
--- src/lib.rt:428:9
-put-entry-requires : tie.Need-put-entry-requires Inv-loop μ-loop
-put-entry-requires c κs = tt
-
--- src/lib.rt:430:9
-add-i : tie.Need-add-i Inv-loop μ-loop
-add-i c = omega arith
-
--- src/lib.rt:426:5
-loop-less : tie.Need-loop-less Inv-loop μ-loop
-loop-less c = omega arith
-
--- src/lib.rt:426:5
-loop-again : tie.Need-loop-again Inv-loop μ-loop
-loop-again c = let e = c .before .before .before .before .three .ensures in (
-  omega arith,
-  (
-    c .before .before .put-entry .kept .0 ∙ c .before .before .before .before .before .before .loop .inv .1 .0,
-    rw e
-        (put-next (c .before .before .before .before .before .before .before .before .before .before .args .entries .now)
-        (c .before .before .before .before .before .before .loop .i) (c .before .before .before .before .before .before .loop .last)
-        (omega arith) (rw e at (c .before .before .put-entry .ensures))) ∙
-        c .before .before .before .before .before .before .loop .inv .1 .1,
-  ),
+loop-holds c = (
+  refl,
+  puts-start (c .before .before .args .entries .now) (c .before .before .args .out .now) (reachedAt 0 0 0 0) (c
+      .before .before .pre),
 )
 
--- src/lib.rt:420:1
-same-length : tie.Need-same-length Inv-loop μ-loop
-same-length c = c .before .loop .inv .1 .0
+-- src/writing.rt:201:16
+sub-if1 : tie.Need-sub-if1 Inv-loop μ-loop
+sub-if1 c = c .before .loop .inv .1 .puts .ordered .inside
 
--- src/lib.rt:420:1
+-- src/writing.rt:207:13
+three-requires : tie.Need-three-requires Inv-loop μ-loop
+three-requires c κs = more c
+
+-- src/writing.rt:208:13
+put-longer-requires : tie.Need-put-longer-requires Inv-loop μ-loop
+put-longer-requires c κs = tt
+
+-- src/writing.rt:210:17
+add-t8 : tie.Need-add-t8 Inv-loop μ-loop
+add-t8 c = omega (
+  arith,
+  c .before .before .before .before .before .before .if1 .taken,
+  c .before .before .before .before .before .before
+      .before .before .before .before .before .good .1 .0 .1,
+)
+
+-- src/writing.rt:212:18
+add-t13 : tie.Need-add-t13 Inv-loop μ-loop
+add-t13 c = let p = c .before .before .before .before .before .before .before .before .before .loop .reached in
+    let f : Fits (tip (p .number) (p .end)) (c .before .before .before .before .before .before .three .result) = rw (c .before .before
+    .before .before .before .before .three .ensures)
+    (ordered-fits (c .before .before .before .before .before .before .before .before .before .loop .inv .1 .puts .ordered) (more (c
+    .before .before .before .before .before .before .before))) in
+    omega (arith, f .ends)
+
+-- src/writing.rt:215:9
+put-close-requires : tie.Need-put-close-requires Inv-loop μ-loop
+put-close-requires c κs = turned c .puts
+
+-- src/writing.rt:201:5
+loop-less : tie.Need-loop-less Inv-loop μ-loop
+loop-less c = let x = c .before .before .put-close .ensures in omega (arith, x .on, x .puts .ordered .inside)
+
+-- src/writing.rt:201:5
+loop-again : tie.Need-loop-again Inv-loop μ-loop
+loop-again c = (
+  c .before .before .put-close .kept .0 ∙ c .before .before .before .before .before .before .before .before .put-longer .kept .0 ∙ c
+      .before .before .before .before .before .before .before .before .before .before .before .before .before .loop .inv .0,
+  puts-on (turned (c .before .before .before)) (c .before .before .put-close .ensures),
+)
+
+-- src/writing.rt:191:1
+same-length : tie.Need-same-length Inv-loop μ-loop
+same-length c = c .before .before .loop .inv .0
+
+-- src/writing.rt:191:1
 returns : tie.Need-returns Inv-loop μ-loop
-returns c = record {
-  is = put-end (c .before .before .before .before .before .args .entries .now) (c .before .loop .i)
-      (c .before .loop .last) (held (c .before .loop .place) (c .before .loop .out)) (omega arith) ∙ c .before .loop .inv .1 .1;
-}
+returns c = put-all (c .before .before .loop .inv .1) (c .if1 .left)
 
 pub put-all-spec : {M : Type 1} → statement M
 put-all-spec =
@@ -85,12 +106,13 @@ put-all-spec =
     (tie.spec
     Inv-loop
     μ-loop
-    origin-requires
     loop-holds
-    sub-loop
+    sub-if1
     three-requires
-    put-entry-requires
-    add-i
+    put-longer-requires
+    add-t8
+    add-t13
+    put-close-requires
     loop-less
     loop-again
     same-length
