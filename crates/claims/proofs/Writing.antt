@@ -1,6 +1,5 @@
 -- The claims about writing, each under a plain sentence. `Writes` is what every writer's contract says: what it answers, and every byte
--- that
--- it leaves.
+-- that it leaves.
 use Prim.Native.Nat.{ℕ, _≤_}
 use mathlib.Core.Path.{_≡_, refl, sym, ap, _∙_}
 use mathlib.Core.List.{List, _++_}

@@ -1,6 +1,5 @@
 -- Settings: two ports (rate, protocol, mask), datum, zone, GPS mask, GLONASS mask, self-test code 0 to 255. At start: 4800, protocol 4,
--- mask
--- 007F on both; datum 0; zone 0; all satellites; code 0.
+-- mask 007F on both; datum 0; zone 0; all satellites; code 0.
 use Prim.Native.Nat.{ℕ, zero, suc}
 use mathlib.Core.Bool.{Bool, true, _&&_}
 use lib.Dec.{eqb}

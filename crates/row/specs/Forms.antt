@@ -37,8 +37,7 @@ use Rattle.texts.specs.Texts.{maybeText, minutesField, monthField, nsField, num
 use Rattle.row.specs.Row.{Form, Row, one, measured}
 
 -- A form of one field: at most how many bytes with its comma, what the field reads as, its value, whether that is outside its range, and
--- its
--- text.
+-- its text.
 abbrev pub single : {X : Type 0} → ℕ → (List ℕ → Got) → (Got → X) → (X → ℕ) → (X → List ℕ) → Form Got X
 single most read value fault text =
     record {

@@ -22,8 +22,7 @@ pub record Form (G X : Type 0) : Type 0 where
   pub text : X → List (List ℕ)
 
 -- A row: the same in its place in a sentence. The numbers are how many fields stand before it, and the first wrong one after it; the list
--- is
--- the texts after it.
+-- is the texts after it.
 pub record Row (G X : Type 0) : Type 0 where
   pub width : ℕ
   pub most : ℕ
@@ -95,8 +94,7 @@ abbrev pub measured : {G X : Type 0} → ℕ → (G → Bool) → (X → Bool) �
 measured letter found held a = made (λ v. v .0) (λ v. (v, tt)) (depending 1 2 found held a (unitAfter letter))
 
 -- A form that stands only where it is on, as the last field of one profile, or an entry that is used; else it has no field, reads as
--- `none`,
--- and holds the value of that.
+-- `none`, and holds the value of that.
 abbrev pub onlyIf : {G X : Type 0} → Bool → G → (X → ℕ) → Form G X → Form G X
 onlyIf on none filled f =
     record {

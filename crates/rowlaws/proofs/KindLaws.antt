@@ -25,8 +25,8 @@ use Rattle.rowlaws.proofs.Laws.{bytes, Lawful, Tight}
 use Rattle.rowlaws.proofs.Trips.{body-long, line-back, read-in-range, read-shorter}
 
 -- Of a standard kind, which answers A, beside other records where it has one of its own: what is written is read back as the same record
--- and
--- talker; and whatever holds of refusals and of records in range, whose texts are no longer than the fields were, holds of what is read.
+-- and talker; and whatever holds of refusals and of records in range, whose texts are no longer than the fields were, holds of what is
+-- read.
 pub record Standard {A G R : Type 0} (refuse : ℕ → ℕ → A) (as-read : A → Reading) (name : String) (row : Row G R) (make : Talker → R → A)
     : Type 1 where
   pub read-write : (t : Talker) (r : R) → faultBy row r ≡ 0 → length (standardBody t name (fieldsFor row r)) ≤ 76

@@ -1,6 +1,5 @@
 -- The record at the numbers of a record is that record, kind by kind and whatever numbers come after: a mark says again whether its value
--- is
--- there, and a signed value that fits 32 bits is again itself.
+-- is there, and a signed value that fits 32 bits is again itself.
 use Prim.Native.Nat.{ℕ}
 use mathlib.Core.Path.{_≡_, refl}
 use mathlib.Core.Bool.{Bool, true, false}

@@ -1,6 +1,5 @@
 -- GSV there and back. An entry is a form, lawful as the others are, and so is the row of so many entries; what the writer looks at, entry
--- by
--- entry, is what the row does.
+-- by entry, is what the row does.
 use Prim.Native.Nat.{ℕ, zero, suc, _+_, _≤_, _<_}
 use mathlib.Core.Bool.{Bool, true, false, not, _||_}
 use mathlib.Core.List.{List, [], _∷_, _++_}

@@ -1,7 +1,6 @@
--- One line of a group. The line of a table in range has four places and no fault: its used entries are the next four of the table, or those
--- that are left, and the other places are blank. And the other way round: of a record without a fault the used entries are in range, and
--- its
--- four places are these, filled up with blank ones.
+-- One line of a group. The line of a table in range has four places and no fault: its used entries are the next four of the table, or
+-- those that are left, and the other places are blank. And the other way round: of a record without a fault the used entries are in range,
+-- and its four places are these, filled up with blank ones.
 use Prim.Native.Nat.{ℕ, zero, suc, _+_, _-_, _*_, _≤_}
 use mathlib.Core.Path.{_≡_, refl, sym, _∙_, ap, subst}
 use mathlib.Core.List.{List, [], _∷_, _++_}

@@ -1,7 +1,6 @@
 -- What was read as a group can be written, and is written as the same bytes. Go through the lines: each that was taken adds its used
--- entries,
--- in range and with numbers that were not there, and as many as line k must have. So at the end all entries are there, line k holds the
--- entries that stand at its place among them, and it is the line that the writer makes of these.
+-- entries, in range and with numbers that were not there, and as many as line k must have. So at the end all entries are there, line k
+-- holds the entries that stand at its place among them, and it is the line that the writer makes of these.
 use Prim.Native.Nat.{ℕ, _+_, _-_, _*_, _≤_}
 use mathlib.Core.Path.{_≡_, refl, sym, _∙_, ap, ap₂, subst}
 use mathlib.Core.List.{List, [], _∷_, _++_, append-assoc, append-nil}
