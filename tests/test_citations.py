@@ -23,7 +23,7 @@ def none_missing(missing, count):
 
 
 def test_definitions_and_theorems():
-    found = [(page, one) for page, one in cited(r"(?<![\w./-])([a-z]+)/([A-Z]\w*)((?:,? `[\w·-]+`)*)") if one[0] in CRATES]
+    found = [(page, one) for page, one in cited(r"(?<![\w./-])([a-z_]+)/([A-Z]\w*)((?:,? `[\w·-]+`)*)") if one[0] in CRATES]
     missing = []
     for page, (crate, file, names) in found:
         files = [ROOT / "crates" / crate / part / (file + ".antt") for part in ("specs", "proofs")]
@@ -35,12 +35,12 @@ def test_definitions_and_theorems():
 
 
 def test_edits():
-    found = [(page, one) for page, one in cited(r"(?<![\w./-])([a-z]+)/([a-z0-9]+(?:_[a-z0-9]+)+)(?![\w./])") if one[0] in CRATES]
+    found = [(page, one) for page, one in cited(r"(?<![\w./-])([a-z_]+)/([a-z0-9]+(?:_[a-z0-9]+)+)(?!\w|[./]\w)") if one[0] in CRATES]
     none_missing([one for one in found if not (ROOT / "crates" / one[1][0] / "must-fail" / (one[1][1] + ".edit")).exists()], len(found))
 
 
 def test_functions():
-    found = [(page, one) for page, one in cited(r"`([a-z]+)::((?:[a-z_]+::)*[a-z_]+)`") if one[0] in CRATES]
+    found = [(page, one) for page, one in cited(r"`([a-z_]+)::((?:[a-z_]+::)*[a-z_]+)`") if one[0] in CRATES]
     missing = []
     for page, (crate, path) in found:
         *modules, name = path.split("::")

@@ -1,20 +1,22 @@
 -- No known address has a comma in it: no row of the tables has one. So where the sixth byte is a comma, it is the first.
-use Prim.Native.Nat.{ℕ, _≤_}
-use mathlib.Core.Path.{_≡_, refl, sym, _∙_, ap}
-use mathlib.Core.List.{List, [], _∷_, _++_}
-use mathlib.Core.Bool.{Bool, true, false, not}
-use mathlib.Core.Option.{Option, none, some}
+use Prim.Native.Nat.{_≤_, ℕ}
+use mathlib.Core.Path.{_∙_, _≡_, ap, refl, sym}
+use mathlib.Core.List.{[], _++_, _∷_, List}
+use mathlib.Core.Bool.{Bool, false, not, true}
+use mathlib.Core.Option.{none, Option, some}
 use native.Mathlib.Omega.{arith}
-use lib.ListN.{length, getD, take, drop, take-append-drop, List·getD-eq-default}
+use lib.ListN.{drop, getD, length, List·getD-eq-default, take, take-append-drop}
 use lib.Dec.{eqb}
 use borrow.Author.Tests.{eq-eqb, ne-eqb}
-use Rattle.digits.proofs.Bools.{and-left, and-right, and-both}
+use Rattle.digits.proofs.Bools.{and-both, and-left, and-right}
 use Rattle.address.specs.declared.Talker.{Talker}
 use Rattle.address.specs.declared.Kind.{Kind}
 use Rattle.address.specs.declared.Pir.{Pir}
 use Rattle.address.specs.declared.Address.the-variants.{Unknown}
-use Rattle.address.specs.Address.{pick, talkers, kinds, pirs, talkerOf, kindOf, pirOf, standard, maker, talked, knownOf, commaFree, addressOf}
-use Rattle.address.proofs.Tables.{rows, found-passes}
+use Rattle.digits.specs.Pick.{pick}
+use Rattle.address.specs.Address.{addressOf, commaFree, kindOf, kinds, knownOf, maker, pirOf, pirs, standard, talked, talkerOf}
+use Rattle.address.specs.Address.{talkers}
+use Rattle.address.proofs.Tables.{found-passes, rows}
 
 free-join : (p s : List ℕ) → commaFree p ≡ true → commaFree s ≡ true → commaFree (p ++ s) ≡ true
 unfolding commaFree

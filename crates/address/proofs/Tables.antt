@@ -1,14 +1,15 @@
 -- Tables of fixed bytes: the first row that is the same decides, and what is found has the bytes of some row.
 use Prim.Native.Nat.{ℕ}
-use mathlib.Core.Path.{_≡_, refl, _∙_, ap}
-use mathlib.Core.List.{List, [], _∷_}
-use mathlib.Core.Bool.{Bool, true, false, _&&_}
+use mathlib.Core.Path.{_∙_, _≡_, ap, refl}
+use mathlib.Core.List.{[], _∷_, List}
+use mathlib.Core.Bool.{_&&_, Bool, false, true}
 use mathlib.Core.Option.{some}
 use native.Mathlib.Omega.{arith}
 use Rattle.digits.specs.Same.{same}
 use Rattle.digits.proofs.Bools.{and-left, and-right}
 use Rattle.digits.proofs.Sameness.{same-true}
-use Rattle.address.specs.Address.{Named, lookUp, pick}
+use Rattle.address.specs.Address.{lookUp, Named}
+use Rattle.digits.specs.Pick.{pick}
 
 module _ {A : Type 0} (a : List ℕ) (n : Named A) (ns : List (Named A)) where
   -- r is what a call of `same_bytes` answered

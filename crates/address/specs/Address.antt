@@ -2,21 +2,22 @@
 -- PIR addresses in full.
 use Prim.Native.Nat.{ℕ}
 use Prim.Native.String.{String}
-use mathlib.Core.List.{List, [], _∷_}
-use mathlib.Core.Bool.{Bool, true, false, not, _&&_}
-use mathlib.Core.Option.{Option, none, some}
-use lib.ListN.{getD, take, drop}
+use mathlib.Core.Bool.{_&&_, Bool, not, true}
+use mathlib.Core.List.{[], _∷_, List}
+use mathlib.Core.Option.{none, Option, some}
 use lib.Dec.{eqb}
+use lib.ListN.{drop, getD, take}
 use Rattle.digits.specs.Ascii.{ascii}
+use Rattle.digits.specs.Pick.{pick}
 use Rattle.digits.specs.Same.{same}
-use Rattle.address.specs.declared.Talker.{Talker}
-use Rattle.address.specs.declared.Talker.the-variants.{Gp, Gl, Ga, Gq, Gn}
+use Rattle.address.specs.declared.Address.{Address}
+use Rattle.address.specs.declared.Address.the-variants.{Maker, Standard, Unknown}
 use Rattle.address.specs.declared.Kind.{Kind}
 use Rattle.address.specs.declared.Kind.the-variants.{Gga, Gll, Gsa, Gsv, Rmc, Vtg, Zda}
 use Rattle.address.specs.declared.Pir.{Pir}
-use Rattle.address.specs.declared.Pir.the-variants.{Pr, Tr, Sr, Er, Pa, Ta, Sa, Ea}
-use Rattle.address.specs.declared.Address.{Address}
-use Rattle.address.specs.declared.Address.the-variants.{Standard, Maker, Unknown}
+use Rattle.address.specs.declared.Pir.the-variants.{Ea, Er, Pa, Pr, Sa, Sr, Ta, Tr}
+use Rattle.address.specs.declared.Talker.{Talker}
+use Rattle.address.specs.declared.Talker.the-variants.{Ga, Gl, Gn, Gp, Gq}
 
 -- The fixed bytes of a thing.
 pub record Named (A : Type 0) : Type 0 where
@@ -37,10 +38,6 @@ abbrev pub pirs : List (Named Pir)
 pirs =
     ("PIRPR" is Pr) ∷ ("PIRTR" is Tr) ∷ ("PIRSR" is Sr) ∷ ("PIRER" is Er)
     ∷ ("PIRPA" is Pa) ∷ ("PIRTA" is Ta) ∷ ("PIRSA" is Sa) ∷ ("PIREA" is Ea) ∷ []
-
-abbrev pub pick : {A : Type 0} → Bool → A → A → A
-pick true a b = a
-pick false a b = b
 
 -- The thing of a table whose bytes are a.
 unfoldable pub lookUp : {A : Type 0} → List ℕ → List (Named A) → Option A

@@ -1,29 +1,28 @@
 -- The claims of the library, each under a plain sentence. The argument of each stands in the file that its last line names; what a
 -- function is promised to give stands in its contract, in src/, and in the definition that the contract cites, in specs/.
-use Prim.Native.Nat.{ℕ, suc, _+_, _-_, _≤_, _<_}
+use Prim.Native.Nat.{_+_, _-_, _<_, _≤_, suc, ℕ}
 use mathlib.Core.Path.{_≡_}
-use mathlib.Core.List.{List, [], _∷_, _++_}
-use mathlib.Core.Bool.{true, false}
-use lib.ListN.{length, getD, take, drop}
+use mathlib.Core.List.{[], _++_, _∷_, List}
+use mathlib.Core.Bool.{false, true}
+use lib.ListN.{drop, getD, length, take}
 use borrow.Author.Tests.{ne-eqb}
 use Rattle.digits.specs.Hex.{hexDigit}
-use Rattle.line.specs.Line.{lineRefusal, bodyOf, endOf, lineWith, asLine}
+use Rattle.line.specs.Line.{asLine, bodyOf, endOf, lineRefusal, lineWith}
 use Rattle.line.proofs.Form as Form
 use Rattle.lines.specs.Cut.{cutLines, joined}
 use Rattle.lines.specs.Edit.{OneByte}
-use Rattle.lines.specs.Reader.{Step, stop, readLines}
+use Rattle.lines.specs.Reader.{readLines, Step, stop}
 use Rattle.lines.specs.New.{lineOf}
-use Rattle.lines.specs.Caught.{NotRefused, Caught}
+use Rattle.lines.specs.Caught.{Caught, NotRefused}
 use Rattle.lines.proofs.CutLaws as CutLaws
 use Rattle.lines.proofs.Machine as Machine
 use Rattle.lines.proofs.Point3 as Point3
 use Rattle.fields.specs.Fields.{fieldsOf, joinFields}
 use Rattle.fields.proofs.Joining as Joining
-use Rattle.finder.specs.Finder.{given, heldAfter, endsHere}
+use Rattle.finder.specs.Finder.{endsHere, given, givenAll, heldAfter, openLine}
 use Rattle.finder.specs.Slice.{foundAt}
 use Rattle.finder.proofs.History as History
 use Rattle.finder.proofs.SliceLines as SliceLines
-use Rattle.finder.specs.Finder.{openLine, givenAll}
 use Rattle.address.specs.declared.Address.the-variants.{Unknown}
 use Rattle.address.specs.Address.{addressOf}
 use Rattle.records.specs.declared.Sentence.the-variants.{Refused}
@@ -39,45 +38,44 @@ use Rattle.sky.proofs.Damage as Damage
 use Rattle.sky.specs.declared.Table.{Table}
 use Rattle.sky.specs.Sky.{tableOf}
 use Rattle.sky.specs.Table.{WritesGroup}
-use Rattle.tripssky.proofs.Exactly as Exactly
-use Rattle.tripssky.proofs.Half as Half
-use Rattle.sealing.specs.declared.Written.{Written}
-use Rattle.sealing.specs.Written.{faultAt, wrote, Writes}
-use Rattle.writenav.specs.Gga.{ggaBody, ggaWrong}
+use Rattle.sky_laws.proofs.Exactly as Exactly
+use Rattle.sky_laws.proofs.Half as Half
+use Rattle.frame.specs.declared.Written.{Written}
+use Rattle.frame.specs.Written.{faultAt, refused, Writes, wrote}
+use Rattle.kind_gga.specs.Row.{ggaBody, ggaWrong}
 use Rattle.claims.proofs.Rewriting as Rewriting
 use Rattle.claims.proofs.Writing as Writing
 use Rattle.claims.proofs.Skies as Skies
 use Rattle.receiver.specs.declared.Done.{Done}
 use Rattle.receiver.specs.declared.Settings.{Settings}
 use Rattle.receiver.specs.Settings.{settingsGood}
-use Rattle.receiver.specs.Command.{Outcome, namedPort, portTold, sentenceOutcome, outcomeOf, settingsAfter, Does}
+use Rattle.receiver.specs.Command.{Does, namedPort, Outcome, outcomeOf, portTold, sentenceOutcome, settingsAfter}
 use Rattle.records.specs.declared.PortAsked.{PortAsked}
 use Rattle.records.specs.declared.Reading.{Reading}
 use Rattle.fromnumbers.specs.Back.{recordAt}
-use Rattle.hostrecords.specs.ToHost.{toldFor, laidFor}
+use Rattle.hostrecords.specs.ToHost.{laidFor, toldFor}
 use Rattle.tripsnumbers.proofs.Host as Host
 use Rattle.claims.proofs.Commands as Commands
 use Rattle.claims.proofs.Replies as Replies
 use Rattle.claims.proofs.Rows as Rows
-use Rattle.claims.proofs.Rows.{rows, AllHold, rows-hold}
-use Rattle.sealing.specs.Written.{refused}
-use Rattle.sevens.specs.Sevens as Sevens
-use Rattle.sevens.proofs.Groups as Groups
+use Rattle.claims.proofs.Rows.{AllHold, rows, rows-hold}
+use Rattle.index_sevens.specs.Sevens as Sevens
+use Rattle.index_sevens.proofs.Groups as Groups
 use Rattle.index.specs.Index as Index
 use Rattle.index.specs.Answers as Exhibit
 use Rattle.index.specs.declared.Entry as IndexEntry
 use Rattle.index.proofs.Promises as Promises
 use Rattle.index.proofs.Turns as IndexTurns
 use Rattle.host.specs.Index.{setAt}
-use Rattle.rowlaws.proofs.PlaceLaws.{Agree}
-use Rattle.rowlaws.proofs.PlaceDate.{no-such-day}
-use Rattle.calendar.specs.Dates.{dateThree}
+use Rattle.form.proofs.PlaceLaws.{Agree}
+use Rattle.form_date.proofs.PlaceDate.{no-such-day}
+use Rattle.form_date.specs.Dates.{dateThree}
 use Rattle.digits.specs.Ascii.{ascii}
 use Rattle.digits.specs.Decimal.{printFixed}
 use Rattle.address.specs.declared.Address.{Address}
 use Rattle.fields.specs.Places.{theFields}
-use Rattle.placeoffive.proofs.All as Fives
-use Rattle.placeoffive.proofs.Lines as Lines
+use Rattle.sentence_laws.proofs.Five as Fives
+use Rattle.sentence_laws.proofs.FiveLines as Lines
 
 -- What the line rule accepts is `$`, a body of 1 to 76 allowed bytes, `*`, the two digits of its XOR, CR, LF ..
 pub line-accepted : (l : List ℕ) → lineRefusal l ≡ 0 → Form.Body (bodyOf l) × (l ≡ asLine (bodyOf l))

@@ -1,9 +1,9 @@
 -- Commands from the contract of the step. Only an answer without a refusal changes a setting, and then the reply was written: so its values,
 -- which are those after the command, are in range, and it reads back as the record of them.
-use Prim.Native.Nat.{ℕ, zero, suc}
-use mathlib.Core.Path.{_≡_, refl, sym, ap, _∙_}
+use Prim.Native.Nat.{suc, zero, ℕ}
+use mathlib.Core.Path.{_∙_, _≡_, ap, refl, sym}
 use mathlib.Core.List.{List}
-use mathlib.Core.Bool.{Bool, true, false}
+use mathlib.Core.Bool.{Bool, false, true}
 use native.Mathlib.Omega.{arith}
 use lib.Dec.{eqb}
 use lib.Count.{ones}
@@ -13,15 +13,17 @@ use Rattle.records.specs.declared.DatumAsked.{DatumAsked}
 use Rattle.records.specs.declared.MasksAsked.{MasksAsked}
 use Rattle.records.specs.declared.PortAsked.{PortAsked}
 use Rattle.records.specs.declared.Sentence.the-variants as S
-use Rattle.sealing.specs.declared.Written.{Written}
-use Rattle.sealing.specs.Written.{pick, faultAt, writtenOf, leftOf}
-use Rattle.writecom.specs.Pirpa.{pirpaWrong, pirpaBody}
+use Rattle.frame.specs.declared.Written.{Written}
+use Rattle.digits.specs.Pick.{pick}
+use Rattle.frame.specs.Written.{faultAt, leftOf, writtenOf}
+use Rattle.kind_pir_port.specs.Reply.{pirpaBody, pirpaWrong}
 use Rattle.receiver.specs.declared.Counts.{Counts}
 use Rattle.receiver.specs.declared.Done.{Done}
 use Rattle.receiver.specs.declared.Port.{Port}
 use Rattle.receiver.specs.declared.Settings.{Settings}
-use Rattle.receiver.specs.Settings.{portOf, withPort, settingsGood, countsOf}
-use Rattle.receiver.specs.Command.{Outcome, refuses, replies, namedPort, portAsked, afterPort, afterDatum, afterMasks, portTold, sentenceOutcome, answerOf, settingsAfter, outputAfter, Does}
+use Rattle.receiver.specs.Settings.{countsOf, portOf, settingsGood, withPort}
+use Rattle.receiver.specs.Command.{afterDatum, afterMasks, afterPort, answerOf, Does, namedPort, Outcome, outputAfter, portAsked, portTold}
+use Rattle.receiver.specs.Command.{refuses, replies, sentenceOutcome, settingsAfter}
 
 -- A refused command leaves the settings and every byte of the output; so 8 is decided before anything changes.
 refused-settings : (s : Settings) (o : Outcome) (room : ℕ) → (answerOf o room .no ≡ 0 → ⊥) → settingsAfter s o room ≡ s

@@ -1,15 +1,15 @@
 -- The index and the functions that a host calls for it: any two results that a contract permits are equal.
 use Prim.Native.Nat.{ℕ}
 use mathlib.Core.List.{List}
-use lib.ListN.{length, drop}
+use lib.ListN.{drop, length}
 use Rattle.put.specs.Wrote.{Held, wrote}
-use Rattle.sevens.specs.Sevens.{sevens, takeSevens}
-use Rattle.sevens.specs.Places.{takenAt}
+use Rattle.index_sevens.specs.Sevens.{sevens, takeSevens}
+use Rattle.index_sevens.specs.Places.{takenAt}
 use Rattle.index.specs.declared.Entry.{Entry}
-use Rattle.index.specs.Index.{origin, fits, entryBytes, entryOf, readIndex}
-use Rattle.index.specs.Answers.{writtenIndex, leftIndex, listedFor, laidFor, addedIndex, leftAdded, foundIn}
+use Rattle.index.specs.Index.{entryBytes, entryOf, fits, origin, readIndex}
+use Rattle.index.specs.Answers.{addedIndex, foundIn, laidFor, leftAdded, leftIndex, listedFor, writtenIndex}
 use Rattle.index.specs.Places.{nextAt, scanOf}
-use Rattle.host.specs.Index.{setAt, entryWith}
+use Rattle.host.specs.Index.{entryWith, setAt}
 use Rattle.claims.proofs.Determined.{One, one}
 
 -- sevens

@@ -4,46 +4,49 @@ use Prim.Native.Nat.{ℕ}
 use mathlib.Core.Path.{_≡_}
 use mathlib.Core.List.{List}
 use mathlib.Core.Bool.{Bool}
-use Rattle.forms.specs.Angle.{positionForm, variationForm}
-use Rattle.forms.specs.Got.{gotOf, maybeIntOf, maybeOf, withinOf}
-use Rattle.forms.specs.Fixed.{fixedOf}
+use Rattle.form_position.specs.Angle.{positionForm, variationForm}
+use Rattle.form.specs.Got.{gotOf, maybeIntOf, maybeOf, withinOf}
+use Rattle.form_number.specs.Fixed.{exactForm, fixedForm, fixedOf}
 use Rattle.digits.specs.declared.Num.{Num}
 use Rattle.digits.specs.Means.{num}
-use Rattle.forms.specs.Letters.{emptyWrong, letterOf, unitWrong}
-use Rattle.forms.specs.Number.{belowOf, heightOf, numberOf}
-use Rattle.calendar.specs.Calendar.{isDate}
-use Rattle.calendar.specs.Dates.{dateSix, dateThree}
-use Rattle.calendar.specs.Time.{timeOf}
-use Rattle.calendar.specs.Zone.{zoneFour, zoneTwo}
-use Rattle.masks.specs.Masks.{hexDigitsOf, isPortMask, portMaskForm, satellitesForm, wholeForm}
-use Rattle.masks.specs.Rates.{codeForm, rateForm}
+use Rattle.form.specs.Units.{emptyWrong, unitWrong}
+use Rattle.form_letter.specs.Letters.{letterForm, letterOf}
+use Rattle.form_number.specs.Number.{belowForm, belowOf, heightForm, heightOf, numberForm, numberOf}
+use Rattle.form_date.specs.Calendar.{isDate}
+use Rattle.form_date.specs.Dates.{dateSix, dateThree}
+use Rattle.form_time.specs.Time.{timeForm, timeOf}
+use Rattle.form_date.specs.Zone.{zoneFour, zoneFourForm, zoneTwo}
+use Rattle.form_mask.specs.Masks.{hexDigitsOf, isPortMask, portMaskForm, satellitesForm, wholeForm}
+use Rattle.form_mask.specs.Rates.{codeForm, rateForm}
 use Rattle.fields.specs.Places.{fieldIn, fieldsBy}
-use Rattle.kinds.specs.Kinds.{belowForm, exactForm, fixedForm, heightForm, letterForm, numberForm, timeForm, zoneFourForm}
 use Rattle.address.specs.declared.Talker.{Talker}
-use Rattle.navigation.specs.Gga.{ggaOf}
-use Rattle.navigation.specs.Gll.{gllOf}
-use Rattle.navigation.specs.Rmc.{rmcOf}
-use Rattle.navigation.specs.Vtg.{vtgOf}
-use Rattle.navigation.specs.Zda.{zdaOf}
-use Rattle.satellites.specs.Active.{gsaOf}
-use Rattle.satellites.specs.View.{gsvOf}
-use Rattle.commands.specs.Pirea.{pireaOf}
-use Rattle.commands.specs.Pirer.{pirerOf}
-use Rattle.commands.specs.Pirpa.{pirpaOf}
-use Rattle.commands.specs.Pirpr.{pirprOf}
-use Rattle.commands.specs.Pirsa.{pirsaOf}
-use Rattle.commands.specs.Pirsr.{pirsrOf}
-use Rattle.commands.specs.Pirta.{pirtaOf}
-use Rattle.commands.specs.Pirtr.{pirtrOf}
+use Rattle.kind_gga.specs.Row.{ggaOf}
+use Rattle.kind_gll.specs.Row.{gllOf}
+use Rattle.kind_rmc.specs.Row.{rmcOf}
+use Rattle.kind_vtg.specs.Row.{vtgOf}
+use Rattle.kind_zda.specs.Row.{zdaOf}
+use Rattle.kind_gsa.specs.Row.{gsaOf}
+use Rattle.kind_gsv.specs.Row.{gsvOf}
+use Rattle.kind_pir_code.specs.Reply.{pireaOf}
+use Rattle.kind_pir_code.specs.Command.{pirerOf}
+use Rattle.kind_pir_port.specs.Reply.{pirpaOf}
+use Rattle.kind_pir_port.specs.Command.{pirprOf}
+use Rattle.kind_pir_masks.specs.Reply.{pirsaOf}
+use Rattle.kind_pir_masks.specs.Command.{pirsrOf}
+use Rattle.kind_pir_datum.specs.Reply.{pirtaOf}
+use Rattle.kind_pir_datum.specs.Command.{pirtrOf}
 use Rattle.reading.specs.Lines.{readLine, refusalOf}
 use Rattle.records.specs.declared.Sentence.{Sentence}
-use Rattle.records.specs.Keep.{datedOf, keptIf, keptOf, kmhOf, knotsOf, neededInt, neededWrong, numberOf as keptNumber, placedOf, signedOf, zonedIf, zonedOf}
+use Rattle.form_date.specs.Values.{datedOf, zonedIf, zonedOf}
+use Rattle.form.specs.Values.{keptIf, keptOf, neededInt, neededWrong}
+use Rattle.form_number.specs.Values.{kmhOf, knotsOf, numberOf as keptNumber, signedOf}
+use Rattle.form_position.specs.Values.{placedOf}
 use Rattle.records.specs.Blank.{aloneOf, blankEntry, blankGsa, blankGsv}
-use Rattle.records.specs.Wrong.{nearOf}
-use Rattle.forms.specs.declared.got.Got.{Got}
-use Rattle.forms.specs.declared.got.GotInt.{GotInt}
-use Rattle.forms.specs.declared.got.Position.{Position}
-use Rattle.calendar.specs.declared.date.GotDate.{GotDate}
+use Rattle.form.specs.Wrong.{nearOf}
+use Rattle.form.specs.declared.got.Got.{Got}
+use Rattle.form.specs.declared.got.GotInt.{GotInt}
+use Rattle.form_position.specs.declared.Position.{Position}
+use Rattle.form_date.specs.declared.dates.GotDate.{GotDate}
 use Rattle.claims.proofs.Determined.{One, one, read}
 
 -- forms

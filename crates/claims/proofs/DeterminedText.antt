@@ -1,29 +1,30 @@
 -- The functions under the listing and the stand-in: any two results that a contract permits are equal. A put answers a place and leaves a
 -- buffer, both as one definition says; `keep` a count and a buffer. What `flush` answers within its buffer no contract of a write fixes.
-use Prim.Native.Nat.{ℕ, _+_, min}
-use mathlib.Core.Path.{_≡_, sym, ap, _∙_}
-use mathlib.Core.List.{List, _++_}
+use Prim.Native.Nat.{_+_, min, ℕ}
+use mathlib.Core.Path.{_∙_, _≡_, ap, sym}
+use mathlib.Core.List.{_++_, List}
 use mathlib.Core.Bool.{Bool}
 use lib.IntN.{ℤ}
 use lib.ListN.{drop}
-use Rattle.forms.specs.Sign.{signText}
+use Rattle.digits.specs.Sign.{signText}
 use Rattle.records.specs.declared.Entry.{Entry}
 use Rattle.records.specs.declared.Reading.{Reading}
-use Rattle.records.specs.declared.values.Date.{Date}
-use Rattle.records.specs.declared.values.Kmh.{Kmh}
-use Rattle.records.specs.declared.values.Knots.{Knots}
-use Rattle.records.specs.declared.values.Maybe.{Maybe}
-use Rattle.records.specs.declared.values.Number.{Number}
-use Rattle.records.specs.declared.values.Place.{Place}
-use Rattle.records.specs.declared.values.Signed.{Signed}
-use Rattle.records.specs.declared.values.Zone.{Zone}
-use Rattle.text.specs.Numbers.{decimalText, valueText, intText}
-use Rattle.text.specs.Values.{maybeNumbers, thousandthNumbers, signedNumbers, knotsNumbers, kmhNumbers, placeNumbers, dateNumbers, zoneNumbers}
+use Rattle.form_date.specs.declared.Date.{Date}
+use Rattle.form_number.specs.declared.Kmh.{Kmh}
+use Rattle.form_number.specs.declared.Knots.{Knots}
+use Rattle.form.specs.declared.Maybe.{Maybe}
+use Rattle.form_number.specs.declared.Number.{Number}
+use Rattle.form_position.specs.declared.Place.{Place}
+use Rattle.form_number.specs.declared.Signed.{Signed}
+use Rattle.form_date.specs.declared.Zone.{Zone}
+use Rattle.text.specs.Numbers.{decimalText, intText, valueText}
+use Rattle.text.specs.Values.{dateNumbers, kmhNumbers, knotsNumbers, maybeNumbers, placeNumbers, signedNumbers, thousandthNumbers}
+use Rattle.text.specs.Values.{zoneNumbers}
 use Rattle.dump.specs.Record.{entryNumbers, recordNumbers}
 use Rattle.rows.specs.Row.{rowText}
-use Rattle.turns.specs.Turns.{part, Keeps}
+use Rattle.turns.specs.Turns.{Keeps, part}
 use Rattle.claims.proofs.Determined.{One, one}
-use Rattle.claims.proofs.DeterminedWriting.{OnePut, one-put}
+use Rattle.claims.proofs.DeterminedWriting.{one-put, OnePut}
 
 -- texts, of which the listing uses the sign
 pub text-sign : (d : List ℕ) (at : ℕ) (z : ℤ) → OnePut d at (signText z)

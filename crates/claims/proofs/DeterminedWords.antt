@@ -1,15 +1,15 @@
 -- Values and fields in words, and lists of exhibits: any two results that a contract permits are equal.
 use Prim.Native.Nat.{ℕ}
-use mathlib.Core.Path.{_≡_, refl, sym, ap, _∙_}
-use mathlib.Core.Option.{Option, none, some}
+use mathlib.Core.Path.{_∙_, _≡_, ap, refl, sym}
+use mathlib.Core.Option.{none, Option, some}
 use mathlib.Core.List.{List}
 use Rattle.put.specs.Wrote.{Held, wrote}
 use Rattle.phrases.specs.Phrases.{measureText}
-use Rattle.words.specs.Words.{wordsText, kindText, refusalText}
-use Rattle.lists.specs.declared.Parsed.{Parsed}
-use Rattle.lists.specs.declared.Parsed.the-variants.{Is, Bad}
-use Rattle.lists.specs.declared.Row.{Row}
-use Rattle.lists.specs.Lists.{number, numberOf, rowOf, bodyOf, askedOf}
+use Rattle.words.specs.Words.{kindText, refusalText, wordsText}
+use Rattle.exhibits_lists.specs.declared.Parsed.{Parsed}
+use Rattle.exhibits_lists.specs.declared.Parsed.the-variants.{Bad, Is}
+use Rattle.exhibits_lists.specs.declared.Row.{Row}
+use Rattle.exhibits_lists.specs.Lists.{askedOf, bodyOf, number, numberOf, rowOf}
 use Rattle.claims.proofs.Determined.{One, one}
 
 -- phrases, words

@@ -1,61 +1,63 @@
 -- The functions that write: any two results that a contract permits are equal. A put answers a place and leaves a buffer, both as one
 -- definition says; a writer answers and leaves the output as `Writes` says.
-use Prim.Native.Nat.{ℕ, _+_}
-use mathlib.Core.Path.{_≡_, sym, ap, _∙_}
-use mathlib.Core.List.{List, [], _∷_, _++_}
+use Prim.Native.Nat.{_+_, ℕ}
+use mathlib.Core.Path.{_∙_, _≡_, ap, sym}
+use mathlib.Core.List.{[], _++_, _∷_, List}
 use mathlib.Core.Bool.{Bool, cond}
-use lib.IntN.{ℤ, natAbs}
+use lib.IntN.{natAbs, ℤ}
 use lib.ListN.{take}
 use Rattle.address.specs.declared.Talker.{Talker}
 use Rattle.digits.specs.Decimal.{printFixed}
-use Rattle.forms.specs.Plain.{numberText, plainText}
-use Rattle.calendar.specs.Time.{clockText}
-use Rattle.calendar.specs.Zone.{fourText}
-use Rattle.masks.specs.Masks.{printHex}
-use Rattle.records.specs.declared.values.Date.{Date}
-use Rattle.records.specs.declared.values.Place.{Place}
-use Rattle.records.specs.declared.values.Signed.{Signed}
-use Rattle.records.specs.declared.values.Zone.{Zone}
+use Rattle.digits.specs.Plain.{numberText, plainText}
+use Rattle.form_time.specs.Time.{clockText}
+use Rattle.form_date.specs.Zone.{fourText}
+use Rattle.form_mask.specs.Masks.{portWrong, printHex}
+use Rattle.form_date.specs.declared.Date.{Date}
+use Rattle.form_position.specs.declared.Place.{Place}
+use Rattle.form_number.specs.declared.Signed.{Signed}
+use Rattle.form_date.specs.declared.Zone.{Zone}
 use Rattle.put.specs.Wrote.{Held, held, Puts, PutsFields}
-use Rattle.ranges.specs.Ranges.{alikeWrong, letterWrong, outside, placeWrong, portWrong, rangeWrong, signedWrong, sixWrong, threeWrong}
-use Rattle.texts.specs.Texts.{dayField, ewField, heightText, hoursField, ifThere, latField, letterField, lonField, minutesField}
-use Rattle.texts.specs.Texts.{monthField, nsField, sixField, variationField, variationSide, yearField}
-use Rattle.sealing.specs.declared.Written.{Written}
-use Rattle.sealing.specs.Body.{talkerText}
-use Rattle.sealing.specs.Written.{faultAt, refused, Writes}
+use Rattle.form.specs.Values.{alikeWrong, ifThere, outside, rangeWrong, signedWrong}
+use Rattle.form_letter.specs.Letters.{letterField, letterWrong}
+use Rattle.form_position.specs.Values.{ewField, latField, lonField, nsField, placeWrong, variationField, variationSide}
+use Rattle.form_date.specs.Values.{dayField, hoursField, minutesField, monthField, sixField, sixWrong, threeWrong, yearField}
+use Rattle.form_number.specs.Values.{heightText}
+use Rattle.frame.specs.declared.Written.{Written}
+use Rattle.frame.specs.Body.{talkerText}
+use Rattle.frame.specs.Written.{faultAt, refused, Writes}
 use Rattle.records.specs.declared.Entry.{Entry}
 use Rattle.records.specs.declared.Gsa.{Gsa}
-use Rattle.records.specs.Wrong.{nearOf}
+use Rattle.form.specs.Wrong.{nearOf}
 use Rattle.records.specs.declared.Gsv.{Gsv}
-use Rattle.writesat.specs.Gsa.{gsaBody, gsaWrong}
-use Rattle.writesat.specs.Gsv.{gsvBody, gsvFault}
+use Rattle.kind_gsa.specs.Row.{gsaBody, gsaWrong}
+use Rattle.kind_gsv.specs.Writing.{gsvBody, gsvFault}
 use Rattle.records.specs.Blank.{isBlank}
-use Rattle.writecom.specs.Pirer.{pirerBody}
+use Rattle.kind_pir_code.specs.Command.{pirerBody}
 use Rattle.records.specs.declared.Gga.{Gga}
-use Rattle.writenav.specs.Gga.{ggaBody, ggaWrong}
+use Rattle.kind_gga.specs.Row.{ggaBody, ggaWrong}
 use Rattle.records.specs.declared.Gll.{Gll}
-use Rattle.writenav.specs.Gll.{gllBody, gllWrong}
+use Rattle.kind_gll.specs.Row.{gllBody, gllWrong}
 use Rattle.records.specs.declared.Rmc.{Rmc}
-use Rattle.writenav.specs.Rmc.{rmcBody, rmcWrong}
+use Rattle.kind_rmc.specs.Row.{rmcBody, rmcWrong}
 use Rattle.records.specs.declared.Vtg.{Vtg}
-use Rattle.writenav.specs.Vtg.{vtgBody, vtgWrong}
+use Rattle.kind_vtg.specs.Row.{vtgBody, vtgWrong}
 use Rattle.records.specs.declared.Zda.{Zda}
-use Rattle.writenav.specs.Zda.{zdaBody, zdaWrong}
+use Rattle.kind_zda.specs.Row.{zdaBody, zdaWrong}
 use Rattle.records.specs.declared.PortAsked.{PortAsked}
-use Rattle.writecom.specs.Pirpr.{pirprBody, pirprWrong}
+use Rattle.kind_pir_port.specs.Command.{pirprBody, pirprWrong}
 use Rattle.records.specs.declared.DatumAsked.{DatumAsked}
-use Rattle.writecom.specs.Pirtr.{pirtrBody, pirtrWrong}
+use Rattle.kind_pir_datum.specs.Command.{pirtrBody, pirtrWrong}
 use Rattle.records.specs.declared.MasksAsked.{MasksAsked}
-use Rattle.writecom.specs.Pirsr.{pirsrBody, pirsrWrong}
+use Rattle.kind_pir_masks.specs.Command.{pirsrBody, pirsrWrong}
 use Rattle.records.specs.declared.PortTold.{PortTold}
-use Rattle.writecom.specs.Pirpa.{pirpaBody, pirpaWrong}
+use Rattle.kind_pir_port.specs.Reply.{pirpaBody, pirpaWrong}
 use Rattle.records.specs.declared.DatumTold.{DatumTold}
-use Rattle.writecom.specs.Pirta.{pirtaBody, pirtaWrong}
+use Rattle.kind_pir_datum.specs.Reply.{pirtaBody, pirtaWrong}
 use Rattle.records.specs.declared.MasksTold.{MasksTold}
-use Rattle.writecom.specs.Pirsa.{pirsaBody, pirsaWrong}
+use Rattle.kind_pir_masks.specs.Reply.{pirsaBody, pirsaWrong}
 use Rattle.records.specs.declared.CodeTold.{CodeTold}
-use Rattle.writecom.specs.Pirea.{pireaBody, pireaWrong}
-use Rattle.sky.specs.Group.{linesFor, entriesAt}
+use Rattle.kind_pir_code.specs.Reply.{pireaBody, pireaWrong}
+use Rattle.sky.specs.Group.{entriesAt, linesFor}
 use Rattle.sky.specs.Marks.{hadIf, markedIf}
 use Rattle.claims.proofs.Determined.{One, one}
 
@@ -200,7 +202,7 @@ text-hex-six d at there v = one-fields d at (ifThere there (printHex 6 v) ∷ []
 pub text-hex-eight : (d : List ℕ) (at : ℕ) (there : Bool) (v : ℕ) → OneFields d at (ifThere there (printHex 8 v) ∷ [])
 text-hex-eight d at there v = one-fields d at (ifThere there (printHex 8 v) ∷ [])
 
--- sealing
+-- frame
 pub seal-refuse : (n : ℕ) (line : ℕ) (field : ℕ) → One (refused n line field)
 seal-refuse n line field = one
 

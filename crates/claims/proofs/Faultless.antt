@@ -1,14 +1,15 @@
 -- From a line the reply never has a fault: what was read is in range, and so are the settings, so what a reply tells is. After 1 to 5 and 9
 -- only 8 can follow.
-use Prim.Native.Nat.{ℕ, zero, suc, _<_}
-use mathlib.Core.Path.{_≡_, refl, sym, ap, _∙_}
+use Prim.Native.Nat.{_<_, suc, zero, ℕ}
+use mathlib.Core.Path.{_∙_, _≡_, ap, refl, sym}
 use mathlib.Core.List.{List}
-use mathlib.Core.Bool.{Bool, true, false, _&&_, cond}
+use mathlib.Core.Bool.{_&&_, Bool, cond, false, true}
 use native.Mathlib.Omega.{arith}
 use lib.Dec.{eqb, ltb}
-use borrow.Author.Tests.{ltb-true, eqb-true}
+use borrow.Author.Tests.{eqb-true, ltb-true}
 use Rattle.digits.proofs.Bools.{and-left, and-right}
-use Rattle.ranges.specs.Ranges.{alikeWrong, outside, portWrong, rangeWrong, signedWrong}
+use Rattle.form.specs.Values.{alikeWrong, outside, rangeWrong, signedWrong}
+use Rattle.form_mask.specs.Masks.{portWrong}
 use Rattle.records.specs.declared.DatumAsked.{DatumAsked}
 use Rattle.records.specs.declared.Gsa.{Gsa}
 use Rattle.records.specs.declared.Gsv.{Gsv}
@@ -17,34 +18,28 @@ use Rattle.records.specs.declared.PortAsked.{PortAsked}
 use Rattle.records.specs.declared.Sentence.{Sentence}
 use Rattle.records.specs.declared.Sentence.the-variants as S
 use Rattle.reading.specs.Lines.{readLine}
-use Rattle.sealing.specs.Written.{pick, faultAt}
-use Rattle.trips.proofs.Ranged.{in-outside}
-use Rattle.writecom.specs.Pirea.{pireaWrong}
-use Rattle.writecom.specs.Pirpa.{pirpaWrong}
-use Rattle.writecom.specs.Pirpr.{pirprWrong}
-use Rattle.writecom.specs.Pirsa.{pirsaWrong}
-use Rattle.writecom.specs.Pirsr.{pirsrWrong}
-use Rattle.writecom.specs.Pirta.{pirtaWrong}
-use Rattle.writecom.specs.Pirtr.{pirtrWrong}
+use Rattle.digits.specs.Pick.{pick}
+use Rattle.frame.specs.Written.{faultAt}
+use Rattle.form.proofs.Ranged.{in-outside}
+use Rattle.kind_pir_code.specs.Reply.{pireaRow, pireaWrong}
+use Rattle.kind_pir_port.specs.Reply.{pirpaRow, pirpaWrong}
+use Rattle.kind_pir_port.specs.Command.{pirprRow, pirprWrong}
+use Rattle.kind_pir_masks.specs.Reply.{pirsaRow, pirsaWrong}
+use Rattle.kind_pir_masks.specs.Command.{pirsrRow, pirsrWrong}
+use Rattle.kind_pir_datum.specs.Reply.{pirtaRow, pirtaWrong}
+use Rattle.kind_pir_datum.specs.Command.{pirtrRow, pirtrWrong}
 use Rattle.receiver.specs.declared.Port.{Port}
 use Rattle.receiver.specs.declared.Settings.{Settings}
-use Rattle.receiver.specs.Settings.{portOf, withPort, portGood, settingsGood}
-use Rattle.receiver.specs.Command.{Outcome, refuses, replies, namedPort, portAsked, afterPort, afterDatum, afterMasks, portTold}
-use Rattle.receiver.specs.Command.{datumTold, masksTold, codeTold, sentenceOutcome, outcomeOf}
-use Rattle.claims.proofs.Replies.{InRange, in-range, port-set}
+use Rattle.receiver.specs.Settings.{portGood, portOf, settingsGood, withPort}
+use Rattle.receiver.specs.Command.{afterDatum, afterMasks, afterPort, codeTold, datumTold, masksTold, namedPort, Outcome, outcomeOf}
+use Rattle.receiver.specs.Command.{portAsked, portTold, refuses, replies, sentenceOutcome}
+use Rattle.claims.proofs.Replies.{in-range, InRange, port-set}
 use Rattle.claims.proofs.Rewriting.{Writable}
 use Rattle.claims.proofs.Writing as Writing
-use Rattle.rowlaws.proofs.Laws.{near-zero}
-use Rattle.row.specs.Kind.{faultBy}
-use Rattle.records.specs.Wrong.{nearOf}
+use Rattle.form.proofs.Laws.{near-zero}
+use Rattle.form.specs.Kind.{faultBy}
+use Rattle.form.specs.Wrong.{nearOf}
 use lib.IntN.{ℤ}
-use Rattle.commands.specs.Pirpr.{pirprRow}
-use Rattle.commands.specs.Pirpa.{pirpaRow}
-use Rattle.commands.specs.Pirtr.{pirtrRow}
-use Rattle.commands.specs.Pirta.{pirtaRow}
-use Rattle.commands.specs.Pirsr.{pirsrRow}
-use Rattle.commands.specs.Pirsa.{pirsaRow}
-use Rattle.commands.specs.Pirea.{pireaRow}
 
 -- A refusal, or a reply without a fault.
 abbrev pub Faultless : Outcome → Type 0

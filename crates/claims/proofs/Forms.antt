@@ -1,34 +1,36 @@
 -- The field forms, each from both sides: what reads has this shape and value, and this shape reads. The arguments stand in the files named.
-use Prim.Native.Nat.{ℕ, _-_, _^_, _≤_, _<_}
+use Prim.Native.Nat.{_-_, _<_, _^_, _≤_, ℕ}
 use mathlib.Core.Path.{_≡_}
-use mathlib.Core.List.{List, [], _∷_}
-use mathlib.Core.Bool.{Bool, true, false}
+use mathlib.Core.List.{[], _∷_, List}
+use mathlib.Core.Bool.{Bool, false, true}
 use mathlib.Core.Option.{some}
 use mathlib.Core.Logic.{_⊎_}
-use lib.IntN.{ℤ, pos, natAbs}
+use lib.IntN.{natAbs, pos, ℤ}
 use lib.ListN.{length}
 use Rattle.digits.specs.Ascii.{ascii}
 use Rattle.digits.specs.Decimal.{printFixed}
-use Rattle.forms.specs.Got.{gotIntOf}
-use Rattle.forms.specs.Fixed.{fixedOf}
-use Rattle.forms.specs.Letters.{isIn, letterOf, unitWrong}
-use Rattle.forms.specs.Number.{numberOf, belowOf, heightOf}
-use Rattle.forms.specs.Angle.{positionForm, variationForm}
-use Rattle.forms.proofs.FixedLaws as FixedLaws
-use Rattle.forms.proofs.LetterLaws as LetterLaws
-use Rattle.forms.proofs.NumberSides as NumberSides
-use Rattle.forms.proofs.PositionSides as PositionSides
-use Rattle.calendar.specs.Time.{timeOf}
-use Rattle.calendar.specs.Calendar.{isDate}
-use Rattle.calendar.specs.Dates.{theDate, dateSix, dateThree, sixText}
-use Rattle.calendar.specs.Zone.{zoneTwo, zoneFour, hoursText, minutesText, fourText}
-use Rattle.calendar.proofs.TimeLaws as TimeLaws
-use Rattle.calendar.proofs.CalendarLaws as CalendarLaws
-use Rattle.calendar.proofs.ZoneLaws as ZoneLaws
-use Rattle.masks.specs.Masks.{printHex, isPortMask, portMaskOf, satellitesOf}
-use Rattle.masks.specs.Rates.{rateOf, codeOf}
-use Rattle.masks.proofs.MaskText as MaskText
-use Rattle.masks.proofs.RateLaws as RateLaws
+use Rattle.form.specs.Got.{gotIntOf}
+use Rattle.form_number.specs.Fixed.{fixedOf}
+use Rattle.form_letter.specs.Letters.{isIn, letterOf}
+use Rattle.form.specs.Units.{unitWrong}
+use Rattle.form_number.specs.Number.{belowOf, heightOf, numberOf}
+use Rattle.form_position.specs.Angle.{positionForm, variationForm}
+use Rattle.form_number.proofs.FixedLaws as FixedLaws
+use Rattle.form_letter.proofs.LetterLaws as LetterLaws
+use Rattle.form.proofs.UnitLaws as UnitLaws
+use Rattle.form_number.proofs.NumberSides as NumberSides
+use Rattle.form_position.proofs.PositionSides as PositionSides
+use Rattle.form_time.specs.Time.{timeOf}
+use Rattle.form_date.specs.Calendar.{isDate}
+use Rattle.form_date.specs.Dates.{dateSix, dateThree, sixText, theDate}
+use Rattle.form_date.specs.Zone.{fourText, hoursText, minutesText, zoneFour, zoneTwo}
+use Rattle.form_time.proofs.TimeLaws as TimeLaws
+use Rattle.form_date.proofs.CalendarLaws as CalendarLaws
+use Rattle.form_date.proofs.ZoneLaws as ZoneLaws
+use Rattle.form_mask.specs.Masks.{isPortMask, portMaskOf, printHex, satellitesOf}
+use Rattle.form_mask.specs.Rates.{codeOf, rateOf}
+use Rattle.form_mask.proofs.MaskText as MaskText
+use Rattle.form_mask.proofs.RateLaws as RateLaws
 
 -- w digits in a range: counts, stations, GSV's digits, quality.
 pub fixed-is : (w lo hi : ℕ) (f : List ℕ) (v : ℕ) → fixedOf w lo hi f ≡ some v → (f ≡ printFixed w v) × (v < 10 ^ w) × (lo ≤ v) × (v ≤ hi)
@@ -46,13 +48,13 @@ letter-reads = LetterLaws.letter-reads
 
 -- A unit's letter, which may be empty without its value.
 pub unit-is : (u : List ℕ) (there : Bool) (b : ℕ) → unitWrong u there b ≡ 0 → (u ≡ b ∷ []) ⊎ ((u ≡ []) × (there ≡ false))
-unit-is = LetterLaws.unit-is
+unit-is = UnitLaws.unit-is
 
 pub unit-letter : (there : Bool) (b : ℕ) → unitWrong (b ∷ []) there b ≡ 0
-unit-letter = LetterLaws.unit-letter
+unit-letter = UnitLaws.unit-letter
 
 pub unit-empty : (b : ℕ) → unitWrong [] false b ≡ 0
-unit-empty = LetterLaws.unit-empty
+unit-empty = UnitLaws.unit-empty
 
 -- A number in thousandths: 1 to 6 digits, and 1 to 3 behind a point.
 pub number-is : (f : List ℕ) (v : ℕ) → numberOf f ≡ some v → NumberSides.Written f v

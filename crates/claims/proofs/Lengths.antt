@@ -1,21 +1,21 @@
 -- Which kinds can pass 82 bytes: GGA, RMC and GSA, each shown by a record in range; the others cannot (`fits` of each kind). And no writer
 -- with one constant line meets its contract: two records are written as different bytes.
-use Prim.Native.Nat.{ℕ, _<_}
-use mathlib.Core.Path.{_≡_, refl, sym, ap, _∙_}
+use Prim.Native.Nat.{_<_, ℕ}
+use mathlib.Core.Path.{_∙_, _≡_, ap, refl, sym}
 use mathlib.Core.List.{List}
 use mathlib.Core.Bool.{true}
 use native.Mathlib.Omega.{arith}
 use lib.Dec.{lit<}
-use lib.IntN.{pos, negsuc}
+use lib.IntN.{negsuc, pos}
 use lib.ListN.{length, replicate}
 use Rattle.digits.specs.Decimal.{printFixed}
 use Rattle.line.specs.Line.{asLine}
 use Rattle.address.specs.declared.Talker.the-variants.{Gp}
-use Rattle.calendar.specs.Calendar.{leapYear, daysIn, isDate}
+use Rattle.form_date.specs.Calendar.{daysIn, isDate, leapYear}
 use Rattle.fields.specs.Fields.{joinFields}
-use Rattle.forms.specs.Letters.{isIn}
-use Rattle.forms.specs.Plain.{fractionText, numberText, plainText, widthOf}
-use Rattle.records.specs.Wrong.{nearOf}
+use Rattle.form_letter.specs.Letters.{isIn, letterWrong}
+use Rattle.digits.specs.Plain.{fractionText, numberText, plainText, widthOf}
+use Rattle.form.specs.Wrong.{nearOf}
 use Rattle.records.specs.declared.CodeTold.{CodeTold}
 use Rattle.records.specs.declared.Gga.{Gga}
 use Rattle.records.specs.declared.Gsa.{Gsa}
@@ -23,19 +23,17 @@ use Rattle.records.specs.declared.Rmc.{Rmc}
 use Rattle.records.specs.declared.Reading.{Reading}
 use Rattle.records.specs.declared.Sentence.{Sentence}
 use Rattle.records.specs.declared.Sentence.the-variants as S
-use Rattle.records.specs.declared.values.Number.{Number}
-use Rattle.ranges.specs.Ranges.{letterWrong, outside, placeWrong, rangeWrong, signedWrong, sixWrong}
+use Rattle.form_number.specs.declared.Number.{Number}
+use Rattle.form.specs.Values.{outside, rangeWrong, signedWrong}
+use Rattle.form_position.specs.Values.{placeWrong}
+use Rattle.form_date.specs.Values.{sixWrong}
 use Rattle.reading.specs.Lines.{readLine}
-use Rattle.writecom.specs.Pirea.{pireaBody}
-use Rattle.writenav.specs.Gga.{ggaBody, ggaWrong}
-use Rattle.writenav.specs.Rmc.{rmcBody, rmcWrong}
-use Rattle.writesat.specs.Gsa.{gsaBody, gsaFields, gsaWrong}
-use Rattle.tripscom.proofs.Commands as C
-use Rattle.row.specs.Kind.{faultBy, fieldsFor}
-use Rattle.navigation.specs.Gga.{ggaRow}
-use Rattle.navigation.specs.Rmc.{rmcRow}
-use Rattle.satellites.specs.Active.{gsaRow}
-use Rattle.commands.specs.Pirea.{pireaRow}
+use Rattle.kind_pir_code.specs.Reply.{pireaBody, pireaRow}
+use Rattle.kind_gga.specs.Row.{ggaBody, ggaRow, ggaWrong}
+use Rattle.kind_rmc.specs.Row.{rmcBody, rmcRow, rmcWrong}
+use Rattle.kind_gsa.specs.Row.{gsaBody, gsaFields, gsaRow, gsaWrong}
+use Rattle.sentence_laws.proofs.Maker as C
+use Rattle.form.specs.Kind.{faultBy, fieldsFor}
 
 -- Numbers of six digits before the point and three behind it.
 abbrev pub most : Number

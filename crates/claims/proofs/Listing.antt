@@ -7,21 +7,21 @@ use mathlib.Core.List.{List}
 use mathlib.Core.Bool.{false}
 use mathlib.Core.Option.{bind}
 use Rattle.digits.specs.Ascii.{ascii}
-use Rattle.digits.specs.Decimal.{isDigit, digitsFrom, digitsOf}
+use Rattle.digits.specs.Decimal.{digitsFrom, digitsOf, isDigit}
 use Rattle.digits.specs.Hex.{hexDigit, hexOf}
 use Rattle.digits.specs.Same.{same}
-use Rattle.line.specs.Line.{noneOf, bodyByte, bodyBytes, xorFrom, xorOf, endForm, lineForm, endGives, lineRefusal}
-use Rattle.address.specs.Address.{lookUp, knownOf, commaFree, addressOf}
-use Rattle.fields.specs.Fields.{onto, fieldsOf}
-use Rattle.forms.specs.Fixed.{fixedOf}
-use Rattle.forms.specs.Got.{maybeOf, withinOf}
-use Rattle.row.specs.Kind.{answerBy, readBy}
-use Rattle.records.specs.Wrong.{nearOf}
-use Rattle.satellites.specs.View.{firstOf, entryAt, entryFrom, entriesOf, gsvRow, gsvWith, gsvOf}
-use Rattle.navigation.specs.Gga.{ggaRow}
+use Rattle.line.specs.Line.{bodyByte, bodyBytes, endForm, endGives, lineForm, lineRefusal, noneOf, xorFrom, xorOf}
+use Rattle.address.specs.Address.{addressOf, commaFree, knownOf, lookUp}
+use Rattle.fields.specs.Fields.{fieldsOf, onto}
+use Rattle.form_number.specs.Fixed.{fixedOf}
+use Rattle.form.specs.Got.{maybeOf, withinOf}
+use Rattle.form.specs.Kind.{answerBy, readBy}
+use Rattle.form.specs.Wrong.{nearOf}
+use Rattle.kind_gsv.specs.Row.{entriesOf, entryAt, entryFrom, firstOf, gsvOf, gsvRow, gsvWith}
+use Rattle.kind_gga.specs.Row.{ggaRow}
 use Rattle.reading.specs.Lines.{readBody, readLine}
-use Rattle.text.specs.Numbers.{digitsWithin, decimalText}
-use Rattle.rows.specs.Row.{fiveBytes, addressText, answerText, rowText}
+use Rattle.text.specs.Numbers.{decimalText, digitsWithin}
+use Rattle.rows.specs.Row.{addressText, answerText, fiveBytes, rowText}
 
 -- The row of a line that is the nth found, without its numbers.
 abbrev pub listed : ℕ → String → List ℕ

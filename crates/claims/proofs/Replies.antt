@@ -1,14 +1,14 @@
 -- The reply of a command that was carried out: it tells the values after it, it reads back as the record of them, and since it was written
 -- they are in range, so that settings in range stay so.
-use Prim.Native.Nat.{ℕ, zero, suc}
-use mathlib.Core.Path.{_≡_, refl, sym, ap, subst, _∙_}
+use Prim.Native.Nat.{suc, zero, ℕ}
+use mathlib.Core.Path.{_∙_, _≡_, ap, refl, subst, sym}
 use mathlib.Core.List.{List}
-use mathlib.Core.Bool.{Bool, true, false, _&&_}
+use mathlib.Core.Bool.{_&&_, Bool, false, true}
 use lib.Dec.{eqb, ltb}
 use lib.ListN.{length, take}
 use borrow.Author.Tests.{eq-eqb, eqb-true}
 use Rattle.digits.proofs.Bools.{and-left, and-right}
-use Rattle.ranges.specs.Ranges.{outside, rangeWrong, signedWrong}
+use Rattle.form.specs.Values.{outside, rangeWrong, signedWrong}
 use Rattle.records.specs.declared.DatumAsked.{DatumAsked}
 use Rattle.records.specs.declared.MasksAsked.{MasksAsked}
 use Rattle.records.specs.declared.PortAsked.{PortAsked}
@@ -16,23 +16,21 @@ use Rattle.records.specs.declared.Sentence.{Sentence}
 use Rattle.records.specs.declared.Sentence.the-variants as S
 use Rattle.records.specs.Blank.{aloneOf}
 use Rattle.reading.specs.Lines.{readLine}
-use Rattle.sealing.specs.declared.Written.{Written}
-use Rattle.sealing.specs.Written.{pick, writtenOf, Writes}
-use Rattle.writecom.specs.Pirpa.{pirpaWrong}
-use Rattle.writecom.specs.Pirsa.{pirsaWrong}
-use Rattle.writecom.specs.Pirta.{pirtaWrong}
+use Rattle.frame.specs.declared.Written.{Written}
+use Rattle.digits.specs.Pick.{pick}
+use Rattle.frame.specs.Written.{Writes, writtenOf}
+use Rattle.kind_pir_port.specs.Reply.{pirpaRow, pirpaWrong}
+use Rattle.kind_pir_masks.specs.Reply.{pirsaRow, pirsaWrong}
+use Rattle.kind_pir_datum.specs.Reply.{pirtaRow, pirtaWrong}
 use Rattle.receiver.specs.declared.Done.{Done}
 use Rattle.receiver.specs.declared.Port.{Port}
 use Rattle.receiver.specs.declared.Settings.{Settings}
-use Rattle.receiver.specs.Settings.{portOf, withPort, portGood, settingsGood}
-use Rattle.receiver.specs.Command.{refuses, replies, namedPort, portAsked, afterPort, afterDatum, afterMasks, portTold, datumTold}
-use Rattle.receiver.specs.Command.{masksTold, codeTold, sentenceOutcome, outcomeOf, settingsAfter, Does}
+use Rattle.receiver.specs.Settings.{portGood, portOf, settingsGood, withPort}
+use Rattle.receiver.specs.Command.{afterDatum, afterMasks, afterPort, codeTold, datumTold, Does, masksTold, namedPort, outcomeOf, portAsked}
+use Rattle.receiver.specs.Command.{portTold, refuses, replies, sentenceOutcome, settingsAfter}
 use Rattle.claims.proofs.Writing as Writing
-use Rattle.rowlaws.proofs.Laws.{near-zero}
-use Rattle.row.specs.Kind.{faultBy}
-use Rattle.commands.specs.Pirpa.{pirpaRow}
-use Rattle.commands.specs.Pirta.{pirtaRow}
-use Rattle.commands.specs.Pirsa.{pirsaRow}
+use Rattle.form.proofs.Laws.{near-zero}
+use Rattle.form.specs.Kind.{faultBy}
 
 -- A command that replies, and answers a length.
 module _ {s after : Settings} {fault : Written} {body out : List ℕ} {d : Done} {left : List ℕ}

@@ -1,30 +1,31 @@
 -- What was read can be written: every sentence that the line reader gives is in range, and its line fits. The body of a line is as long as
 -- its fields and commas together, and no field is written longer than it was read, but in the maker's sentences, which always fit.
-use Prim.Native.Nat.{ℕ, zero, suc, _+_, _-_, _≤_}
-use mathlib.Core.Path.{_≡_, refl, sym, ap, _∙_}
-use mathlib.Core.List.{List, [], _∷_, _++_}
-use mathlib.Core.Bool.{Bool, true, false, not, _&&_}
+use Prim.Native.Nat.{_+_, _-_, _≤_, suc, zero, ℕ}
+use mathlib.Core.Path.{_∙_, _≡_, ap, refl, sym}
+use mathlib.Core.List.{[], _++_, _∷_, List}
+use mathlib.Core.Bool.{_&&_, Bool, false, not, true}
 use native.Mathlib.Omega.{arith}
 use lib.Dec.{eqb, leb}
-use lib.ListN.{length, getD, take}
-use borrow.Author.Tests.{eqb-true, leb-true, leb-false, not-true}
+use lib.ListN.{getD, length, take}
+use borrow.Author.Tests.{eqb-true, leb-false, leb-true, not-true}
 use Rattle.digits.specs.Ascii.{ascii}
 use Rattle.digits.proofs.Bools.{and-left, and-right}
-use Rattle.line.specs.Line.{lineRefusal, bodyOf, asLine}
+use Rattle.line.specs.Line.{asLine, bodyOf, lineRefusal}
 use Rattle.line.proofs.Form.{accepted}
 use Rattle.address.specs.declared.Address.{Address}
-use Rattle.address.specs.declared.Address.the-variants.{Standard, Maker, Unknown}
+use Rattle.address.specs.declared.Address.the-variants.{Maker, Standard, Unknown}
 use Rattle.address.specs.declared.Kind.{Kind}
 use Rattle.address.specs.declared.Kind.the-variants as K
 use Rattle.address.specs.declared.Pir.{Pir}
 use Rattle.address.specs.declared.Pir.the-variants as P
 use Rattle.address.specs.declared.Talker.{Talker}
-use Rattle.address.specs.Address.{pick, commaFree, knownOf, addressOf}
+use Rattle.digits.specs.Pick.{pick}
+use Rattle.address.specs.Address.{addressOf, commaFree, knownOf}
 use Rattle.address.proofs.Commas.{no-sixth}
 use Rattle.fields.specs.FieldN.{unknownNo}
-use Rattle.fields.specs.Fields.{onto, fieldsOf, joinFields}
+use Rattle.fields.specs.Fields.{fieldsOf, joinFields, onto}
 use Rattle.fields.specs.Places.{theFields}
-use Rattle.fields.proofs.Joining.{joinAll, join-fields}
+use Rattle.fields.proofs.Joining.{join-fields, joinAll}
 use Rattle.fields.proofs.Splitting.{First, first-field}
 use Rattle.records.specs.declared.Gsa.{Gsa}
 use Rattle.records.specs.declared.Gsv.{Gsv}
@@ -32,33 +33,33 @@ use Rattle.records.specs.declared.Reading.{Reading}
 use Rattle.records.specs.declared.Sentence.{Sentence}
 use Rattle.records.specs.declared.Sentence.the-variants as S
 use Rattle.records.specs.Blank.{aloneOf}
-use Rattle.reading.specs.Lines.{standardOf, makerOf, addressed, readBody, readLine}
-use Rattle.sealing.specs.Body.{talkerText}
-use Rattle.sealing.specs.Written.{wrote}
-use Rattle.sealing.proofs.Sealing.{line-length}
-use Rattle.trips.proofs.CleanTexts.{total, joined-length}
-use Rattle.trips.proofs.Known.{address-five}
-use Rattle.writesat.specs.Gsa.{gsaWrong, gsaFields, gsaBody}
-use Rattle.writesat.specs.Gsv.{gsvFault, gsvBody}
-use Rattle.tripssat.proofs.Gsa as TGsa
-use Rattle.tripssat.proofs.Gsv as TGsv
-use Rattle.writenav.specs.Gga.{ggaWrong, ggaFields, ggaBody}
-use Rattle.writenav.specs.Gll.{gllWrong, gllBody}
-use Rattle.writenav.specs.Rmc.{rmcWrong, rmcFields, rmcBody}
-use Rattle.writenav.specs.Vtg.{vtgWrong, vtgBody}
-use Rattle.writenav.specs.Zda.{zdaWrong, zdaBody}
-use Rattle.writecom.specs.Pirpr.{pirprWrong, pirprBody}
-use Rattle.writecom.specs.Pirtr.{pirtrWrong, pirtrBody}
-use Rattle.writecom.specs.Pirsr.{pirsrWrong, pirsrBody}
-use Rattle.writecom.specs.Pirpa.{pirpaWrong, pirpaBody}
-use Rattle.writecom.specs.Pirta.{pirtaWrong, pirtaBody}
-use Rattle.writecom.specs.Pirsa.{pirsaWrong, pirsaBody}
-use Rattle.writecom.specs.Pirea.{pireaWrong, pireaBody}
-use Rattle.writecom.specs.Pirer.{pirerBody}
-use Rattle.tripsnav.proofs.Navigation as N
-use Rattle.tripscom.proofs.Commands as C
-use Rattle.rowlaws.proofs.Laws.{Begins, bytes}
-use Rattle.writesat.proofs.GoodLaws.{fault-none}
+use Rattle.reading.specs.Lines.{addressed, makerOf, readBody, readLine, standardOf}
+use Rattle.frame.specs.Body.{talkerText}
+use Rattle.frame.specs.Written.{wrote}
+use Rattle.frame.proofs.Sealing.{line-length}
+use Rattle.form.proofs.CleanTexts.{joined-length, total}
+use Rattle.sentence_laws.proofs.Known.{address-five}
+use Rattle.kind_gsa.specs.Row.{gsaBody, gsaFields, gsaWrong}
+use Rattle.kind_gsv.specs.Writing.{gsvBody, gsvFault}
+use Rattle.sentence_laws.proofs.Gsa as TGsa
+use Rattle.sentence_laws.proofs.Gsv as TGsv
+use Rattle.kind_gga.specs.Row.{ggaBody, ggaFields, ggaWrong}
+use Rattle.kind_gll.specs.Row.{gllBody, gllWrong}
+use Rattle.kind_rmc.specs.Row.{rmcBody, rmcFields, rmcWrong}
+use Rattle.kind_vtg.specs.Row.{vtgBody, vtgWrong}
+use Rattle.kind_zda.specs.Row.{zdaBody, zdaWrong}
+use Rattle.kind_pir_port.specs.Command.{pirprBody, pirprWrong}
+use Rattle.kind_pir_datum.specs.Command.{pirtrBody, pirtrWrong}
+use Rattle.kind_pir_masks.specs.Command.{pirsrBody, pirsrWrong}
+use Rattle.kind_pir_port.specs.Reply.{pirpaBody, pirpaWrong}
+use Rattle.kind_pir_datum.specs.Reply.{pirtaBody, pirtaWrong}
+use Rattle.kind_pir_masks.specs.Reply.{pirsaBody, pirsaWrong}
+use Rattle.kind_pir_code.specs.Reply.{pireaBody, pireaWrong}
+use Rattle.kind_pir_code.specs.Command.{pirerBody}
+use Rattle.sentence_laws.proofs.Standard as N
+use Rattle.sentence_laws.proofs.Maker as C
+use Rattle.form.proofs.Laws.{Begins, bytes}
+use Rattle.kind_gsv.proofs.GoodLaws.{fault-none}
 use native.Mathlib.Nat.{zero-add}
 
 -- In range, and its line fits.

@@ -1,53 +1,50 @@
 -- The worked rows that are marked P, as a single list with one claim over it: each row is an equation that is computed.
-use Prim.Native.Nat.{ℕ, zero, suc, _+_, _-_, _/_, _%_, _^_}
+use Prim.Native.Nat.{_%_, _+_, _-_, _/_, _^_, suc, zero, ℕ}
 use Prim.Native.String.{String}
-use mathlib.Core.Path.{_≡_, refl, ap, _∙_}
-use mathlib.Core.List.{List, [], _∷_}
+use mathlib.Core.Path.{_∙_, _≡_, ap, refl}
+use mathlib.Core.List.{[], _∷_, List}
 use mathlib.Core.Bool.{true}
-use mathlib.Core.Option.{some, bind}
+use mathlib.Core.Option.{bind, some}
 use native.Mathlib.Omega.{arith}
-use lib.IntN.{pos, negℤ}
-use lib.Count.{ones, onesIn, ones-step}
+use lib.IntN.{negℤ, pos}
+use lib.Count.{ones, ones-step, onesIn}
 use Rattle.digits.specs.Ascii.{ascii}
-use Rattle.digits.specs.Decimal.{isDigit, digitsFrom, digitsOf}
+use Rattle.digits.specs.Decimal.{digitsFrom, digitsOf, isDigit}
 use Rattle.digits.specs.Hex.{hexDigit, hexOf, hexValue}
 use Rattle.digits.specs.Same.{same}
-use Rattle.line.specs.Line.{noneOf, bodyByte, bodyBytes, xorFrom, xorOf, endForm, lineForm, endGives, lineRefusal, asLine}
-use Rattle.forms.specs.declared.got.GotInt.{GotInt}
-use Rattle.forms.specs.Got.{gotIntOf, withinOf}
-use Rattle.forms.specs.Angle.{joinedOf, angleOf, latitudeOf, longitudeOf, wrongInt, letteredOf, sidedOf}
-use Rattle.calendar.specs.declared.date.GotDate.{GotDate}
-use Rattle.calendar.specs.Pairs.{pairAt}
-use Rattle.calendar.specs.Calendar.{leapYear, daysIn, isDate}
-use Rattle.calendar.specs.Dates.{noDate, theDate, dateAt, fullYear, dateSix}
-use Rattle.calendar.specs.Zone.{minus, bareOf, zoneOf, wrongZone, zoneAt, zoneTwo}
+use Rattle.line.specs.Line.{asLine, bodyByte, bodyBytes, endForm, endGives, lineForm, lineRefusal, noneOf, xorFrom, xorOf}
+use Rattle.form.specs.declared.got.GotInt.{GotInt}
+use Rattle.form.specs.Got.{gotIntOf, maybeOf, withinOf}
+use Rattle.form_position.specs.Angle.{angleOf, joinedOf, latitudeOf, letteredOf, longitudeOf, sidedOf, wrongInt}
+use Rattle.form_date.specs.declared.dates.GotDate.{GotDate}
+use Rattle.digits.specs.Pairs.{pairAt}
+use Rattle.form_date.specs.Calendar.{daysIn, isDate, leapYear}
+use Rattle.form_date.specs.Dates.{dateAt, dateSix, fullYear, noDate, theDate}
+use Rattle.form_date.specs.Zone.{bareOf, minus, wrongZone, zoneAt, zoneOf, zoneTwo}
 use Rattle.address.specs.declared.Talker.the-variants.{Gp}
-use Rattle.address.specs.Address.{lookUp, knownOf, commaFree, addressOf}
-use Rattle.fields.specs.Fields.{onto, fieldsOf, joinFields}
-use Rattle.forms.specs.Fixed.{fixedOf}
-use Rattle.forms.specs.Got.{maybeOf}
-use Rattle.lines.specs.Cut.{before, cutRest, cutLines}
+use Rattle.address.specs.Address.{addressOf, commaFree, knownOf, lookUp}
+use Rattle.fields.specs.Fields.{fieldsOf, joinFields, onto}
+use Rattle.form_number.specs.Fixed.{fixedOf}
+use Rattle.lines.specs.Cut.{before, cutLines, cutRest}
 use Rattle.lines.specs.Reader.{readFrom, readLines}
-use Rattle.masks.specs.Masks.{hexFrom, hexDigitsOf, printHex, satellitesOf, satellitesForm, isPortMask}
-use Rattle.forms.specs.Letters.{emptyWrong}
-use Rattle.ranges.specs.Ranges.{outside, rangeWrong, signedWrong, portWrong}
-use Rattle.commands.specs.Pirsr.{pirsrRow}
-use Rattle.commands.specs.Pirsa.{pirsaRow}
-use Rattle.sealing.specs.Written.{faultAt, writtenOf}
+use Rattle.form_mask.specs.Masks.{hexDigitsOf, hexFrom, isPortMask, portWrong, printHex, satellitesForm, satellitesOf}
+use Rattle.form.specs.Units.{emptyWrong}
+use Rattle.form.specs.Values.{noMaybe, outside, rangeWrong, signedWrong}
+use Rattle.kind_pir_masks.specs.Command.{pirsrRow}
+use Rattle.kind_pir_masks.specs.Reply.{pirsaRow}
+use Rattle.frame.specs.Written.{faultAt, writtenOf}
 use Rattle.receiver.specs.declared.Settings.{Settings}
 use Rattle.receiver.specs.Settings.{atStart, portGood, settingsGood}
-use Rattle.receiver.specs.Command.{Outcome, refuses, replies, outcomeOf, settingsAfter}
-use Rattle.row.specs.Kind.{answerBy, faultBy, fieldsFor, readBy}
-use Rattle.records.specs.Blank.{noMaybe}
-use Rattle.records.specs.Wrong.{nearOf, firstWrong}
-use Rattle.satellites.specs.View.{firstOf, entryAt, entryFrom, entriesOf, gsvRow, gsvWith, gsvOf}
+use Rattle.receiver.specs.Command.{Outcome, outcomeOf, refuses, replies, settingsAfter}
+use Rattle.form.specs.Kind.{answerBy, faultBy, fieldsFor, readBy}
+use Rattle.form.specs.Wrong.{firstWrong, nearOf}
+use Rattle.kind_gsv.specs.Row.{entriesOf, entryAt, entryFrom, firstOf, gsvOf, gsvRow, gsvWith}
 use Rattle.reading.specs.Lines.{readBody, readLine}
-use Rattle.sky.specs.Group.{Answer, whole, refused, linesFor, entriesAt, sameTalker, inPlace, follows, numbered, repeats, gsvRule, rule}
-use Rattle.sky.specs.Group.{ended, groupOf}
-use Rattle.sevens.specs.Sevens.{groups, sevens, takeGroups, takeSevens}
-use Rattle.sevens.specs.Sevens as Sevens
-use Rattle.index.specs.Index.{readFrom as indexFrom}
-use Rattle.index.specs.Index.{fits, lengthOf, skipOf, entryOf, Listing, listed, noIndex, turnsFrom, readIndex}
+use Rattle.sky.specs.Group.{Answer, ended, entriesAt, follows, groupOf, gsvRule, inPlace, linesFor, numbered, refused, repeats, rule}
+use Rattle.sky.specs.Group.{sameTalker, whole}
+use Rattle.index_sevens.specs.Sevens.{groups, sevens, takeGroups, takeSevens}
+use Rattle.index_sevens.specs.Sevens as Sevens
+use Rattle.index.specs.Index.{entryOf, fits, lengthOf, listed, Listing, noIndex, readFrom as indexFrom, readIndex, skipOf, turnsFrom}
 
 -- What a row says.
 pub data Row : Type 0 where

@@ -1,25 +1,26 @@
 -- Groups from the contracts of their reader and their writer. A written group is the first bytes of the output, which the round trips
 -- read back; what was read is in range, so with room enough it is written, as the bytes that it came from.
-use Prim.Native.Nat.{ℕ, _≤_}
-use mathlib.Core.Path.{_≡_, refl, sym, ap, _∙_}
-use mathlib.Core.List.{List, _++_}
-use mathlib.Core.Bool.{Bool, true, false}
+use Prim.Native.Nat.{_≤_, ℕ}
+use mathlib.Core.Path.{_∙_, _≡_, ap, refl, sym}
+use mathlib.Core.List.{_++_, List}
+use mathlib.Core.Bool.{Bool, false, true}
 use native.Mathlib.Omega.{arith}
 use lib.Dec.{eqb, ltb}
-use lib.ListN.{length, take, drop}
-use lib.Seq.{take-at, drop-at}
-use borrow.Author.Tests.{eq-eqb, ne-eqb, le-ltb, eqb-true, eqb-false}
+use lib.ListN.{drop, length, take}
+use lib.Seq.{drop-at, take-at}
+use borrow.Author.Tests.{eq-eqb, eqb-false, eqb-true, le-ltb, ne-eqb}
 use Rattle.address.specs.declared.Talker.{Talker}
 use Rattle.records.specs.declared.Entry.{Entry}
-use Rattle.sealing.specs.declared.Written.{Written}
-use Rattle.sealing.specs.Written.{pick, refused, wrote}
+use Rattle.frame.specs.declared.Written.{Written}
+use Rattle.digits.specs.Pick.{pick}
+use Rattle.frame.specs.Written.{refused, wrote}
 use Rattle.sky.specs.declared.Sky.{Sky}
 use Rattle.sky.specs.declared.Table.{Table}
 use Rattle.sky.specs.Group as Group
-use Rattle.sky.specs.Sky.{tableOf, skyOf}
-use Rattle.sky.specs.Table.{orElse, allBlank, tableFault, groupText, writtenGroup, leftGroup, WritesGroup}
-use Rattle.tripssky.proofs.ReadWrite as ReadWrite
-use Rattle.tripssky.proofs.WriteRead as WriteRead
+use Rattle.sky.specs.Sky.{skyOf, tableOf}
+use Rattle.sky.specs.Table.{allBlank, groupText, leftGroup, orElse, tableFault, WritesGroup, writtenGroup}
+use Rattle.sky_laws.proofs.ReadWrite as ReadWrite
+use Rattle.sky_laws.proofs.WriteRead as WriteRead
 
 -- A group writer that answers a length: the table has no fault, and the room was there.
 module _ {t : Talker} {r : Table} {out : List ℕ} {answer : Written} {left : List ℕ} (w : WritesGroup t r out answer left) where

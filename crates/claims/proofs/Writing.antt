@@ -1,59 +1,59 @@
 -- The claims about writing, each under a plain sentence. `Writes` is what every writer's contract says: what it answers, and every byte
 -- that it leaves.
-use Prim.Native.Nat.{ℕ, _≤_}
-use mathlib.Core.Path.{_≡_, refl, sym, ap, _∙_}
-use mathlib.Core.List.{List, _++_}
-use mathlib.Core.Bool.{Bool, true, false}
+use Prim.Native.Nat.{_≤_, ℕ}
+use mathlib.Core.Path.{_∙_, _≡_, ap, refl, sym}
+use mathlib.Core.List.{_++_, List}
+use mathlib.Core.Bool.{Bool, false, true}
 use native.Mathlib.Omega.{arith}
 use lib.Dec.{eqb, ltb}
-use lib.ListN.{length, take, drop}
-use lib.Seq.{take-at, drop-at}
-use borrow.Author.Tests.{eqb-true, eqb-false, ltb-false}
+use lib.ListN.{drop, length, take}
+use lib.Seq.{drop-at, take-at}
+use borrow.Author.Tests.{eqb-false, eqb-true, ltb-false}
 use Rattle.line.specs.Line.{asLine, bodyOf, lineRefusal}
 use Rattle.address.specs.declared.Talker.{Talker}
-use Rattle.forms.specs.Got.{pick}
+use Rattle.digits.specs.Pick.{pick}
 use Rattle.records.specs.declared.Sentence.the-variants as S
 use Rattle.records.specs.Blank.{aloneOf}
 use Rattle.reading.specs.Lines.{readBody, readLine, refusalOf}
-use Rattle.sealing.specs.declared.Written.{Written}
-use Rattle.sealing.specs.Written.{refused, wrote, faultAt, writtenOf, leftOf, Writes}
-use Rattle.sealing.proofs.Sealing.{line-length}
-use Rattle.writesat.specs.Gsa.{gsaWrong, gsaBody}
-use Rattle.writesat.specs.Gsv.{gsvFault, gsvBody}
-use Rattle.tripssat.proofs.Gsa as TGsa
-use Rattle.tripssat.proofs.Gsv as TGsv
+use Rattle.frame.specs.declared.Written.{Written}
+use Rattle.frame.specs.Written.{faultAt, leftOf, refused, Writes, writtenOf, wrote}
+use Rattle.frame.proofs.Sealing.{line-length}
+use Rattle.kind_gsa.specs.Row.{gsaBeside, gsaBody, gsaWrong}
+use Rattle.kind_gsv.specs.Writing.{gsvBody, gsvFault}
+use Rattle.sentence_laws.proofs.Gsa as TGsa
+use Rattle.sentence_laws.proofs.Gsv as TGsv
+use Rattle.kind_gsv.proofs.Laws as KGsv
 use Rattle.claims.proofs.Rewriting as Rewriting
 use Rattle.records.specs.declared.Gga.{Gga}
-use Rattle.writenav.specs.Gga.{ggaWrong, ggaBody}
+use Rattle.kind_gga.specs.Row.{ggaBody, ggaWrong}
 use Rattle.records.specs.declared.Gll.{Gll}
-use Rattle.writenav.specs.Gll.{gllWrong, gllBody}
+use Rattle.kind_gll.specs.Row.{gllBody, gllWrong}
 use Rattle.records.specs.declared.Rmc.{Rmc}
-use Rattle.writenav.specs.Rmc.{rmcWrong, rmcBody}
+use Rattle.kind_rmc.specs.Row.{rmcBody, rmcWrong}
 use Rattle.records.specs.declared.Vtg.{Vtg}
-use Rattle.writenav.specs.Vtg.{vtgWrong, vtgBody}
+use Rattle.kind_vtg.specs.Row.{vtgBody, vtgWrong}
 use Rattle.records.specs.declared.Zda.{Zda}
-use Rattle.writenav.specs.Zda.{zdaWrong, zdaBody}
+use Rattle.kind_zda.specs.Row.{zdaBody, zdaWrong}
 use Rattle.records.specs.declared.Gsa.{Gsa}
 use Rattle.records.specs.declared.Gsv.{Gsv}
 use Rattle.records.specs.declared.PortAsked.{PortAsked}
-use Rattle.writecom.specs.Pirpr.{pirprWrong, pirprBody}
+use Rattle.kind_pir_port.specs.Command.{pirprBody, pirprWrong}
 use Rattle.records.specs.declared.DatumAsked.{DatumAsked}
-use Rattle.writecom.specs.Pirtr.{pirtrWrong, pirtrBody}
+use Rattle.kind_pir_datum.specs.Command.{pirtrBody, pirtrWrong}
 use Rattle.records.specs.declared.MasksAsked.{MasksAsked}
-use Rattle.writecom.specs.Pirsr.{pirsrWrong, pirsrBody}
+use Rattle.kind_pir_masks.specs.Command.{pirsrBody, pirsrWrong}
 use Rattle.records.specs.declared.PortTold.{PortTold}
-use Rattle.writecom.specs.Pirpa.{pirpaWrong, pirpaBody}
+use Rattle.kind_pir_port.specs.Reply.{pirpaBody, pirpaWrong}
 use Rattle.records.specs.declared.DatumTold.{DatumTold}
-use Rattle.writecom.specs.Pirta.{pirtaWrong, pirtaBody}
+use Rattle.kind_pir_datum.specs.Reply.{pirtaBody, pirtaWrong}
 use Rattle.records.specs.declared.MasksTold.{MasksTold}
-use Rattle.writecom.specs.Pirsa.{pirsaWrong, pirsaBody}
+use Rattle.kind_pir_masks.specs.Reply.{pirsaBody, pirsaWrong}
 use Rattle.records.specs.declared.CodeTold.{CodeTold}
-use Rattle.writecom.specs.Pirea.{pireaWrong, pireaBody}
-use Rattle.writecom.specs.Pirer.{pirerBody}
-use Rattle.tripsnav.proofs.Navigation as N
-use Rattle.tripscom.proofs.Commands as C
-use Rattle.satellites.specs.Active.{gsaBeside}
-use Rattle.writesat.proofs.GoodLaws.{good-is}
+use Rattle.kind_pir_code.specs.Reply.{pireaBody, pireaWrong}
+use Rattle.kind_pir_code.specs.Command.{pirerBody}
+use Rattle.sentence_laws.proofs.Standard as N
+use Rattle.sentence_laws.proofs.Maker as C
+use Rattle.kind_gsv.proofs.GoodLaws.{good-is}
 
 module _ {fault : Written} {body out : List ℕ} {answer : Written} {left : List ℕ} (w : Writes fault body out answer left) where
   -- A refusal leaves every byte of the output.
@@ -163,7 +163,7 @@ gsa-back t r n w h = let d = success w h in
 
 pub gsv-back : (t : Talker) (r : Gsv) → length (r .entries) ≡ 4 → {out left : List ℕ} {answer : Written}
     → Writes (gsvFault r) (gsvBody t r) out answer left
-    → answer .no ≡ 0 → readLine (take (answer .length) left) ≡ TGsv.theGsv t r
+    → answer .no ≡ 0 → readLine (take (answer .length) left) ≡ KGsv.theGsv t r
 gsv-back t r n w h = let d = success w h in rw (line-written w h) (TGsv.read-write t r n (good-is r (d .good)))
 
 pub pirpr-back : (r : PortAsked) {out left : List ℕ} {answer : Written} → Writes (faultAt (pirprWrong r)) (pirprBody r) out answer left

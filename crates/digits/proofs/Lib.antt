@@ -9,3 +9,8 @@ pub mod HexLaws
 pub mod DecimalLaws
 pub mod Bounds
 pub mod DigitSides
+pub mod PairLaws
+pub mod SignLaws
+pub mod Signs
+pub mod Splitting
+pub mod Widths

@@ -3,3 +3,7 @@ pub mod Hex
 pub mod Same
 pub mod Decimal
 pub mod Means
+pub mod Pairs
+pub mod Pick
+pub mod Plain
+pub mod Sign

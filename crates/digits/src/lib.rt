@@ -1,11 +1,14 @@
 // Digits and fixed bytes, as every layer above reads and writes them.
+pub mod pair;
+pub mod sign;
+
+ghost use Prim.Native.Nat.{_%_, _≤_};
 ghost use mathlib.Core.Path.{_≡_};
-ghost use Prim.Native.Nat.{_≤_, _%_};
 ghost use lib.ListN.{length};
-ghost use Rattle.digits.specs.Hex.{hexDigit, hexOf};
-ghost use Rattle.digits.specs.Same.{same};
 ghost use Rattle.digits.specs.Decimal.{digitsFrom, digitsOf, findIn};
+ghost use Rattle.digits.specs.Hex.{hexDigit, hexOf};
 ghost use Rattle.digits.specs.Means.{num};
+ghost use Rattle.digits.specs.Same.{same};
 
 // Whether a byte is one of 0-9 or A-F; small letters are not.
 pub fn is_hex(b: u8) -> bool

@@ -1,6 +1,6 @@
 -- The numbers of a record, in the order of docs/LAYOUT.md, each behind its blank.
 use Prim.Native.Nat.{ℕ}
-use mathlib.Core.List.{List, [], _∷_, _++_}
+use mathlib.Core.List.{[], _++_, _∷_, List}
 use Rattle.records.specs.declared.CodeTold.{CodeTold}
 use Rattle.records.specs.declared.DatumAsked.{DatumAsked}
 use Rattle.records.specs.declared.DatumTold.{DatumTold}
@@ -19,9 +19,10 @@ use Rattle.records.specs.declared.Sentence.{Sentence}
 use Rattle.records.specs.declared.Sentence.the-variants as S
 use Rattle.records.specs.declared.Vtg.{Vtg}
 use Rattle.records.specs.declared.Zda.{Zda}
-use Rattle.records.specs.declared.values.Maybe.{Maybe}
-use Rattle.text.specs.Numbers.{valueText, intText}
-use Rattle.text.specs.Values.{maybeNumbers, thousandthNumbers, signedNumbers, knotsNumbers, kmhNumbers, placeNumbers, dateNumbers, zoneNumbers}
+use Rattle.form.specs.declared.Maybe.{Maybe}
+use Rattle.text.specs.Numbers.{intText, valueText}
+use Rattle.text.specs.Values.{dateNumbers, kmhNumbers, knotsNumbers, maybeNumbers, placeNumbers, signedNumbers, thousandthNumbers}
+use Rattle.text.specs.Values.{zoneNumbers}
 
 -- The fix of a GGA, and its heights, age and station.
 abbrev pub fixNumbers : Gga → List ℕ

@@ -1,5 +1,5 @@
 // The exhibits of a log: an index beside it, which opens by exhibit number.
-use lists::Parsed;
+use exhibits_lists::Parsed;
 
 enum Command {
     Make,
@@ -60,11 +60,11 @@ fn number_at(i: usize) -> Parsed {
         os::fail(b"exhibits: a number cannot be taken");
         return Parsed::Bad;
     }
-    let parsed = lists::parse(&word[0..n]);
+    let parsed = exhibits_lists::parse(&word[0..n]);
     match parsed {
         Parsed::Is(v) => Parsed::Is(v),
         Parsed::Bad => {
-            says::named(
+            exhibits_says::named(
                 b"",
                 &word[0..n],
                 b" is no number from 0 to 4294967295 in decimal digits, without a sign and needless zeros",
@@ -81,26 +81,26 @@ fn add(log: &[u8], index: &[u8]) {
     let Parsed::Is(line) = number_at(5) else {
         return;
     };
-    adding::add(log, index, exhibit, line);
+    exhibits_adding::add(log, index, exhibit, line);
 }
 
 fn show(log: &[u8], index: &[u8], fields: bool) {
     let Parsed::Is(exhibit) = number_at(4) else {
         return;
     };
-    showing::show(log, index, exhibit, fields);
+    exhibits_showing::show(log, index, exhibit, fields);
 }
 
 // Carries out a command with its file names.
 fn run(command: Command, first: &[u8], second: &[u8]) {
     match command {
-        Command::Make => renewing::make(first, second, true),
-        Command::All => renewing::make(first, second, false),
+        Command::Make => exhibits_renewing::make(first, second, true),
+        Command::All => exhibits_renewing::make(first, second, false),
         Command::Add => add(first, second),
         Command::Show => show(first, second, false),
         Command::Read => show(first, second, true),
-        Command::List => showing::list(first),
-        Command::Check => checking::check(first, second),
+        Command::List => exhibits_showing::list(first),
+        Command::Check => exhibits_checking::check(first, second),
         Command::Unknown => {}
     }
 }
@@ -125,7 +125,7 @@ fn main() {
     let n = os::arg(1, &mut word);
     let command = command_of(&word[0..n]);
     if os::arg_count() != words_of(command) {
-        return says::usage();
+        return exhibits_says::usage();
     }
     start(command);
 }

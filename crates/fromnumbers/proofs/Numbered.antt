@@ -1,21 +1,21 @@
 -- Kinds by number: a number that is none of 1 to 15 is 0 or past the table, and no kind; and what a record comes to, by how many numbers
 -- its kind has.
-use Prim.Native.Nat.{ℕ, _+_, _≤_, _<_}
-use mathlib.Core.Path.{_≡_, refl, sym, _∙_, ap}
-use mathlib.Core.Bool.{Bool, true, false}
-use mathlib.Core.List.{List, _∷_}
+use Prim.Native.Nat.{_+_, _<_, _≤_, ℕ}
+use mathlib.Core.Path.{_∙_, _≡_, ap, refl, sym}
+use mathlib.Core.Bool.{Bool, false, true}
+use mathlib.Core.List.{_∷_, List}
 use native.Mathlib.Omega.{arith}
-use borrow.Author.Tests.{lt-ltb, le-ltb, ltb-true, ltb-false}
+use borrow.Author.Tests.{le-ltb, lt-ltb, ltb-false, ltb-true}
 use lib.Dec.{ltb}
-use lib.ListN.{length, getD, List·getD-eq-default}
+use lib.ListN.{getD, length, List·getD-eq-default}
 use Rattle.address.specs.declared.Address.{Address}
 use Rattle.address.specs.declared.Address.the-variants.{Unknown}
 use Rattle.address.specs.declared.Talker.{Talker}
 use Rattle.records.specs.declared.Sentence.the-variants.{Refused}
 use Rattle.records.specs.Blank.{aloneOf}
-use Rattle.slots.specs.Slots.{pick}
-use Rattle.tonumbers.specs.Layout.{counts, countOf}
-use Rattle.fromnumbers.specs.Back.{standardKinds, knownOf, addressAt, addressed, recordAt}
+use Rattle.digits.specs.Pick.{pick}
+use Rattle.tonumbers.specs.Layout.{countOf, counts}
+use Rattle.fromnumbers.specs.Back.{addressAt, addressed, knownOf, recordAt, standardKinds}
 
 pub count-none : (kind : ℕ) → 16 ≤ kind → 0 ≡ countOf kind
 count-none kind h = sym (List·getD-eq-default counts 0 {n = kind} h)

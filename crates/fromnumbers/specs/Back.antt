@@ -2,11 +2,11 @@
 -- talker's sentence. A kind that is none, or a talker that is none, is 3; fewer numbers than the kind has are 5; numbers past them are not looked at.
 use Prim.Native.Nat.{ℕ}
 use mathlib.Core.Bool.{_&&_}
-use mathlib.Core.List.{List, [], _∷_}
+use mathlib.Core.List.{[], _∷_, List}
 use lib.Dec.{ltb}
-use lib.ListN.{length, getD}
+use lib.ListN.{getD, length}
 use Rattle.address.specs.declared.Address.{Address}
-use Rattle.address.specs.declared.Address.the-variants.{Standard, Maker, Unknown}
+use Rattle.address.specs.declared.Address.the-variants.{Maker, Standard, Unknown}
 use Rattle.address.specs.declared.Kind.{Kind}
 use Rattle.address.specs.declared.Kind.the-variants as K
 use Rattle.address.specs.declared.Pir.{Pir}
@@ -29,11 +29,12 @@ use Rattle.records.specs.declared.Rmc.{Rmc}
 use Rattle.records.specs.declared.Vtg.{Vtg}
 use Rattle.records.specs.declared.Zda.{Zda}
 use Rattle.records.specs.declared.Sentence.the-variants as S
-use Rattle.records.specs.declared.values.Maybe.{Maybe}
-use Rattle.records.specs.Blank.{blankGsa, blankGsv, aloneOf}
-use Rattle.slots.specs.Slots.{pick, talkerOf}
+use Rattle.form.specs.declared.Maybe.{Maybe}
+use Rattle.records.specs.Blank.{aloneOf, blankGsa, blankGsv}
+use Rattle.digits.specs.Pick.{pick}
+use Rattle.slots.specs.Slots.{talkerOf}
 use Rattle.tonumbers.specs.Layout.{countOf}
-use Rattle.fromnumbers.specs.Values.{plainAt, intAt, maybeAt, numberAt, knotsAt, kmhAt, signedAt, zoneAt, placeAt, dateAt, entryAt}
+use Rattle.fromnumbers.specs.Values.{dateAt, entryAt, intAt, kmhAt, knotsAt, maybeAt, numberAt, placeAt, plainAt, signedAt, zoneAt}
 
 abbrev pub ggaAt : List ℕ → Gga
 ggaAt n = record { time = maybeAt n 1; place = placeAt n 3; quality = plainAt n 6; satellites = maybeAt n 7; hdop = numberAt n 9; altitude = signedAt n 11; geoid = signedAt n 13; age = numberAt n 15; station = maybeAt n 17 }

@@ -1,5 +1,5 @@
 -- The values of records from numbers, each from its place on: the mark first where a value may be missing.
-use Prim.Native.Nat.{ℕ, _+_}
+use Prim.Native.Nat.{_+_, ℕ}
 use mathlib.Core.Bool.{Bool}
 use mathlib.Core.List.{List}
 use lib.IntN.{ℤ}
@@ -7,14 +7,14 @@ use lib.ListN.{getD}
 use mir.Syntax.{w32}
 use mir.Val.{toZ}
 use Rattle.records.specs.declared.Entry.{Entry}
-use Rattle.records.specs.declared.values.Date.{Date}
-use Rattle.records.specs.declared.values.Kmh.{Kmh}
-use Rattle.records.specs.declared.values.Knots.{Knots}
-use Rattle.records.specs.declared.values.Maybe.{Maybe}
-use Rattle.records.specs.declared.values.Number.{Number}
-use Rattle.records.specs.declared.values.Place.{Place}
-use Rattle.records.specs.declared.values.Signed.{Signed}
-use Rattle.records.specs.declared.values.Zone.{Zone}
+use Rattle.form_date.specs.declared.Date.{Date}
+use Rattle.form_number.specs.declared.Kmh.{Kmh}
+use Rattle.form_number.specs.declared.Knots.{Knots}
+use Rattle.form.specs.declared.Maybe.{Maybe}
+use Rattle.form_number.specs.declared.Number.{Number}
+use Rattle.form_position.specs.declared.Place.{Place}
+use Rattle.form_number.specs.declared.Signed.{Signed}
+use Rattle.form_date.specs.declared.Zone.{Zone}
 use Rattle.slots.specs.Slots.{isThere}
 
 abbrev pub plainAt : List ℕ → ℕ → ℕ

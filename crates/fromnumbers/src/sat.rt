@@ -1,11 +1,11 @@
 // The records of satellites, each from its numbers.
 use crate::values;
+use form::Maybe;
 use records::Entry;
 use records::Gsa;
 use records::Gsv;
-use records::values::Maybe;
 ghost use mathlib.Core.Path.{_≡_};
-ghost use Rattle.fromnumbers.specs.Back.{twelveAt, fourAt, gsaAt, gsvAt};
+ghost use Rattle.fromnumbers.specs.Back.{fourAt, gsaAt, gsvAt, twelveAt};
 
 // The twelve satellites of a GSA.
 fn twelve(n: &[u32]) -> [Maybe; 12]

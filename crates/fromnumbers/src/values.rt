@@ -1,15 +1,15 @@
 // The values of records from numbers, each from its place on.
+use form::Maybe;
+use form_date::Date;
+use form_date::Zone;
+use form_number::Kmh;
+use form_number::Knots;
+use form_number::Number;
+use form_number::Signed;
+use form_position::Place;
 use records::Entry;
-use records::values::Date;
-use records::values::Kmh;
-use records::values::Knots;
-use records::values::Maybe;
-use records::values::Number;
-use records::values::Place;
-use records::values::Signed;
-use records::values::Zone;
 ghost use mathlib.Core.Path.{_≡_};
-ghost use Rattle.fromnumbers.specs.Values.{thereAt, maybeAt, numberAt, knotsAt, kmhAt, signedAt, zoneAt, placeAt, dateAt, entryAt};
+ghost use Rattle.fromnumbers.specs.Values.{dateAt, entryAt, kmhAt, knotsAt, maybeAt, numberAt, placeAt, signedAt, thereAt, zoneAt};
 
 // Whether the mark at a place says that a value is there.
 fn there(n: &[u32], i: u8) -> bool

@@ -1,23 +1,23 @@
 -- Numbers written as a group, by the tests of their definition in order; those of a table are written as the table is, since they say it.
-use Prim.Native.Nat.{ℕ, _≤_, _<_}
-use mathlib.Core.Path.{_≡_, refl, sym, _∙_, ap}
-use mathlib.Core.List.{List, _++_}
-use mathlib.Core.Bool.{true, false}
+use Prim.Native.Nat.{_<_, _≤_, ℕ}
+use mathlib.Core.Path.{_∙_, _≡_, ap, refl, sym}
+use mathlib.Core.List.{_++_, List}
+use mathlib.Core.Bool.{false, true}
 use native.Mathlib.Omega.{arith}
-use borrow.Author.Tests.{lt-ltb, le-ltb}
+use borrow.Author.Tests.{le-ltb, lt-ltb}
 use lib.Dec.{ltb}
-use lib.ListN.{length, getD, drop, length-append}
+use lib.ListN.{drop, getD, length, length-append}
 use Rattle.address.specs.declared.Talker.{Talker}
 use Rattle.address.specs.declared.Talker.the-variants as T
-use Rattle.sealing.specs.declared.Written.{Written}
-use Rattle.sealing.specs.Written.{refused}
+use Rattle.frame.specs.declared.Written.{Written}
+use Rattle.frame.specs.Written.{refused}
 use Rattle.sky.specs.declared.Table.{Table}
 use Rattle.sky.specs.Table.{WritesGroup}
 use Rattle.slots.specs.Slots.{laid, talkerNumber, talkerOf}
 use Rattle.skynumbers.specs.Numbers.{skyNumbers, tableAt}
 use Rattle.skynumbers.proofs.Laying.{laid-is, sky-length}
 use Rattle.skynumbers.proofs.Back.{laid-back}
-use Rattle.host.specs.Group.{Put, groupPut, tablePut}
+use Rattle.host.specs.Group.{groupPut, Put, tablePut}
 
 module _ (n out : List ℕ) where
   abbrev Puts : Written → List ℕ → Type 0

@@ -1,15 +1,16 @@
 -- The step on numbers, by the tests of its definition in order.
-use Prim.Native.Nat.{ℕ, _≤_, _<_}
-use mathlib.Core.Path.{_≡_, sym, _∙_, ap}
+use Prim.Native.Nat.{_<_, _≤_, ℕ}
+use mathlib.Core.Path.{_∙_, _≡_, ap, sym}
 use mathlib.Core.Bool.{Bool}
 use mathlib.Core.List.{List}
 use lib.ListN.{length}
-use borrow.Author.Tests.{lt-ltb, le-ltb, eq-eqb, ne-eqb}
+use borrow.Author.Tests.{eq-eqb, le-ltb, lt-ltb, ne-eqb}
 use Rattle.receiver.specs.declared.Done.{Done}
 use Rattle.receiver.specs.declared.Settings.{Settings}
-use Rattle.receiver.specs.Command.{Outcome, outcomeOf, answerOf, settingsAfter, Does}
-use Rattle.sealing.specs.declared.Written.{Written}
-use Rattle.sealing.specs.Written.{pick, refused}
+use Rattle.receiver.specs.Command.{answerOf, Does, Outcome, outcomeOf, settingsAfter}
+use Rattle.frame.specs.declared.Written.{Written}
+use Rattle.digits.specs.Pick.{pick}
+use Rattle.frame.specs.Written.{refused}
 use Rattle.slots.specs.Slots.{laid}
 use Rattle.settingnumbers.specs.Numbers.{settingNumbers, settingsAt}
 use Rattle.host.specs.Command.{carried, stepped}

@@ -5,10 +5,11 @@ use mathlib.Core.List.{List}
 use lib.Dec.{eqb, ltb}
 use lib.ListN.{length}
 use Rattle.receiver.specs.declared.Counts.{Counts}
-use Rattle.receiver.specs.Command.{Outcome, outcomeOf, answerOf, settingsAfter, outputAfter}
+use Rattle.receiver.specs.Command.{answerOf, Outcome, outcomeOf, outputAfter, settingsAfter}
 use Rattle.receiver.specs.Settings.{countsOf}
-use Rattle.sealing.specs.declared.Written.{Written}
-use Rattle.sealing.specs.Written.{pick, refused}
+use Rattle.frame.specs.declared.Written.{Written}
+use Rattle.digits.specs.Pick.{pick}
+use Rattle.frame.specs.Written.{refused}
 use Rattle.slots.specs.Slots.{laid}
 use Rattle.settingnumbers.specs.Numbers.{settingNumbers, settingsAt}
 

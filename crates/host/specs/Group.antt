@@ -3,14 +3,15 @@ use Prim.Native.Nat.{ℕ}
 use mathlib.Core.Bool.{cond}
 use mathlib.Core.List.{List}
 use lib.Dec.{ltb}
-use lib.ListN.{length, getD}
+use lib.ListN.{getD, length}
 use Rattle.address.specs.declared.Talker.{Talker}
-use Rattle.sealing.specs.declared.Written.{Written}
-use Rattle.sealing.specs.Written.{pick, refused}
+use Rattle.frame.specs.declared.Written.{Written}
+use Rattle.digits.specs.Pick.{pick}
+use Rattle.frame.specs.Written.{refused}
 use Rattle.sky.specs.declared.Table.{Table}
 use Rattle.sky.specs.Group as G
 use Rattle.sky.specs.Sky.{tableOf}
-use Rattle.sky.specs.Table.{writtenGroup, leftGroup}
+use Rattle.sky.specs.Table.{leftGroup, writtenGroup}
 use Rattle.slots.specs.Slots.{laid, talkerOf}
 use Rattle.skynumbers.specs.Numbers.{skyNumbers, tableAt}
 

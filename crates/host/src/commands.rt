@@ -1,11 +1,11 @@
 // The class receiver as Rust or C keeps it: its settings as eleven numbers, and the step of a command.
+use frame::Written;
 use receiver::Counts;
-use sealing::Written;
 ghost use mathlib.Core.Path.{_≡_};
 ghost use Rattle.receiver.specs.Settings.{atStart};
 ghost use Rattle.slots.specs.Slots.{laid};
 ghost use Rattle.settingnumbers.specs.Numbers.{settingNumbers};
-ghost use Rattle.host.specs.Command.{startNo, stepped, countsAt};
+ghost use Rattle.host.specs.Command.{countsAt, startNo, stepped};
 
 // Stores the settings at start as eleven numbers at the start of `settings`, and returns 0; or 8 where that is too
 // short, and then `settings` is left.
@@ -28,7 +28,7 @@ fn step(settings: &mut [u32], arrival: u32, line: &[u8], out: &mut [u8]) -> Writ
     ensures { λ _. ⌜ now (out .exit) ≡ stepped (now (settings .entry)) arrival (now (line .entry)) (now (out .entry)) .out ⌝ }
 {
     if settings.len() < 11 {
-        return sealing::refuse(5, 0, 0);
+        return frame::refuse(5, 0, 0);
     }
     let done = receiver::step(settingnumbers::at(settings), arrival, line, out);
     let written = done.written;

@@ -1,9 +1,9 @@
 // Groups of satellites as Rust or C reads and writes them, as 254 numbers.
-use sealing::Written;
+use frame::Written;
 use sky::Whose;
 ghost use mathlib.Core.Path.{_≡_};
 ghost use Rattle.sky.specs.Group.{groupOf};
-ghost use Rattle.host.specs.Group.{handed, groupPut};
+ghost use Rattle.host.specs.Group.{groupPut, handed};
 
 // Reads the lines in `s` as a group, and returns the number of its refusal, 0 where it is a whole sky. Then its
 // 254 numbers stand at the start of `numbers`; 8 where that is too short. `line` and `field` are set to those of the
@@ -20,7 +20,7 @@ pub extern "C" fn castanwel_read_group(
     ensures { λ _. ⌜ now (field .exit) ≡ handed (groupOf (now (s .entry))) (now (numbers .entry)) .field ⌝ }
     ensures { λ _. ⌜ now (numbers .exit) ≡ handed (groupOf (now (s .entry))) (now (numbers .entry)) .numbers ⌝ }
 {
-    let sky = readsky::read(s);
+    let sky = sky_read::read(s);
     let whose = sky.talker;
     let table = sky.table;
     *line = sky.line;
@@ -35,19 +35,19 @@ pub extern "C" fn castanwel_read_group(
 }
 
 // Writes the group that 254 numbers say. Refused: 5 where there are fewer, then 3 for a talker's number over 4,
-// both with line 0; then as `writesky::write` does.
+// both with line 0; then as `sky_write::write` does.
 fn write_numbers(numbers: &[u32], out: &mut [u8]) -> Written
     ensures { λ w. ⌜ w ≡ groupPut (now (numbers .entry)) (now (out .entry)) .answer ⌝ }
     ensures { λ _. ⌜ now (out .exit) ≡ groupPut (now (numbers .entry)) (now (out .entry)) .out ⌝ }
 {
     if numbers.len() < 254 {
-        return sealing::refuse(5, 0, 0);
+        return frame::refuse(5, 0, 0);
     }
     let n = slots::at(numbers, 0);
     if 4 < n {
-        return sealing::refuse(3, 0, 0);
+        return frame::refuse(3, 0, 0);
     }
-    writesky::write(out, slots::talker_of(n), skynumbers::table_at(numbers))
+    sky_write::write(out, slots::talker_of(n), skynumbers::table_at(numbers))
 }
 
 // Writes the group that `numbers` say into `out`, and returns the number of its refusal, 0 where it was written.

@@ -1,15 +1,15 @@
 -- A refusal on line 0 leaves the output, since its number is not 0; and a record that numbers say is written as the numbers are.
 use Prim.Native.Nat.{ℕ}
-use mathlib.Core.Path.{_≡_, _∙_, ap}
-use mathlib.Core.List.{List, []}
+use mathlib.Core.Path.{_∙_, _≡_, ap}
+use mathlib.Core.List.{[], List}
 use borrow.Author.Tests.{ne-eqb}
 use lib.ListN.{length}
 use Rattle.records.specs.declared.Reading.{Reading}
-use Rattle.sealing.specs.declared.Written.{Written}
-use Rattle.sealing.specs.Written.{refused, writtenOf, leftOf, Writes}
-use Rattle.sealing.proofs.Sealing.{fault-out}
+use Rattle.frame.specs.declared.Written.{Written}
+use Rattle.frame.specs.Written.{leftOf, refused, Writes, writtenOf}
+use Rattle.frame.proofs.Sealing.{fault-out}
 use Rattle.fromnumbers.specs.Back.{recordAt}
-use Rattle.hostrecords.specs.FromHost.{refusedBy, recordFault, recordBody, writtenAs, leftAs}
+use Rattle.hostrecords.specs.FromHost.{leftAs, recordBody, recordFault, refusedBy, writtenAs}
 
 refused-by : (n : ℕ) → (n ≡ 0 → ⊥) → refusedBy n 0 ≡ refused n 0 0
 unfolding refusedBy

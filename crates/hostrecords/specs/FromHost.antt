@@ -1,6 +1,6 @@
 -- What a host writes: the record of a kind that its numbers say, by the writer of that kind. What is no record is refused on line 0.
 use Prim.Native.Nat.{ℕ}
-use mathlib.Core.List.{List, []}
+use mathlib.Core.List.{[], List}
 use lib.Dec.{eqb}
 use lib.ListN.{length}
 use Rattle.records.specs.declared.Gsa.{Gsa}
@@ -8,23 +8,24 @@ use Rattle.records.specs.declared.Gsv.{Gsv}
 use Rattle.records.specs.declared.Reading.{Reading}
 use Rattle.records.specs.declared.Sentence.{Sentence}
 use Rattle.records.specs.declared.Sentence.the-variants as S
-use Rattle.sealing.specs.declared.Written.{Written}
-use Rattle.sealing.specs.Written.{pick, refused, faultAt, writtenOf, leftOf}
-use Rattle.writenav.specs.Gga.{ggaWrong, ggaBody}
-use Rattle.writenav.specs.Gll.{gllWrong, gllBody}
-use Rattle.writesat.specs.Gsa.{gsaWrong, gsaBody}
-use Rattle.writesat.specs.Gsv.{gsvFault, gsvBody}
-use Rattle.writenav.specs.Rmc.{rmcWrong, rmcBody}
-use Rattle.writenav.specs.Vtg.{vtgWrong, vtgBody}
-use Rattle.writenav.specs.Zda.{zdaWrong, zdaBody}
-use Rattle.writecom.specs.Pirpr.{pirprWrong, pirprBody}
-use Rattle.writecom.specs.Pirtr.{pirtrWrong, pirtrBody}
-use Rattle.writecom.specs.Pirsr.{pirsrWrong, pirsrBody}
-use Rattle.writecom.specs.Pirer.{pirerBody}
-use Rattle.writecom.specs.Pirpa.{pirpaWrong, pirpaBody}
-use Rattle.writecom.specs.Pirta.{pirtaWrong, pirtaBody}
-use Rattle.writecom.specs.Pirsa.{pirsaWrong, pirsaBody}
-use Rattle.writecom.specs.Pirea.{pireaWrong, pireaBody}
+use Rattle.frame.specs.declared.Written.{Written}
+use Rattle.digits.specs.Pick.{pick}
+use Rattle.frame.specs.Written.{faultAt, leftOf, refused, writtenOf}
+use Rattle.kind_gga.specs.Row.{ggaBody, ggaWrong}
+use Rattle.kind_gll.specs.Row.{gllBody, gllWrong}
+use Rattle.kind_gsa.specs.Row.{gsaBody, gsaWrong}
+use Rattle.kind_gsv.specs.Writing.{gsvBody, gsvFault}
+use Rattle.kind_rmc.specs.Row.{rmcBody, rmcWrong}
+use Rattle.kind_vtg.specs.Row.{vtgBody, vtgWrong}
+use Rattle.kind_zda.specs.Row.{zdaBody, zdaWrong}
+use Rattle.kind_pir_port.specs.Command.{pirprBody, pirprWrong}
+use Rattle.kind_pir_datum.specs.Command.{pirtrBody, pirtrWrong}
+use Rattle.kind_pir_masks.specs.Command.{pirsrBody, pirsrWrong}
+use Rattle.kind_pir_code.specs.Command.{pirerBody}
+use Rattle.kind_pir_port.specs.Reply.{pirpaBody, pirpaWrong}
+use Rattle.kind_pir_datum.specs.Reply.{pirtaBody, pirtaWrong}
+use Rattle.kind_pir_masks.specs.Reply.{pirsaBody, pirsaWrong}
+use Rattle.kind_pir_code.specs.Reply.{pireaBody, pireaWrong}
 use Rattle.fromnumbers.specs.Back.{recordAt}
 
 -- A refusal is handed back on line 0; one without a number is 3, as of an unknown kind.

@@ -8,8 +8,9 @@ use lib.ListN.{length}
 use Rattle.records.specs.declared.Reading.{Reading}
 use Rattle.reading.specs.declared.Refusal.{Refusal}
 use Rattle.reading.specs.Lines.{refusalOf}
-use Rattle.slots.specs.Slots.{pick, laid}
-use Rattle.tonumbers.specs.Layout.{numbersOf, kindOf}
+use Rattle.digits.specs.Pick.{pick}
+use Rattle.slots.specs.Slots.{laid}
+use Rattle.tonumbers.specs.Layout.{kindOf, numbersOf}
 use Rattle.hostrecords.specs.declared.Told.{Told}
 
 abbrev pub told : ℕ → ℕ → ℕ → Told

@@ -3,12 +3,12 @@
 pub mod writing;
 
 use address::Address;
+use frame::Written;
 use reading::Refusal;
-use sealing::Written;
 ghost use mathlib.Core.Path.{_≡_};
 ghost use Rattle.reading.specs.Lines.{readLine};
-ghost use Rattle.hostrecords.specs.ToHost.{told, toldOf, toldFor, laidFor};
-ghost use Rattle.hostrecords.specs.FromHost.{writtenAs, leftAs};
+ghost use Rattle.hostrecords.specs.FromHost.{leftAs, writtenAs};
+ghost use Rattle.hostrecords.specs.ToHost.{laidFor, told, toldFor, toldOf};
 
 // What a host is told of a line beside its numbers: 0 and its kind, or a refusal with its field.
 pub struct Told {
@@ -57,12 +57,12 @@ pub fn write(kind: u32, numbers: &[u32], out: &mut [u8]) -> Written
     ensures { λ _. ⌜ now (out .exit) ≡ leftAs kind (now (numbers .entry)) (now (out .entry)) ⌝ }
 {
     if numbers.len() < fromnumbers::count_of(kind) {
-        return sealing::refuse(5, 0, 0);
+        return frame::refuse(5, 0, 0);
     }
     let address = fromnumbers::address_at(kind, slots::at(numbers, 0));
     match address {
         Address::Standard(t, k) => writing::standard(out, t, k, numbers),
         Address::Maker(k) => writing::maker(out, k, numbers),
-        Address::Unknown => sealing::refuse(3, 0, 0),
+        Address::Unknown => frame::refuse(3, 0, 0),
     }
 }

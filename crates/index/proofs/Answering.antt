@@ -1,25 +1,26 @@
 -- What reading, adding and writing answer, from what the bytes read as.
-use Prim.Native.Nat.{ℕ, _+_, _-_, _*_, _/_, _%_, _≤_, _<_}
-use mathlib.Core.Path.{_≡_, refl, sym, ap, _∙_}
-use mathlib.Core.Bool.{Bool, true, false}
-use mathlib.Core.List.{List, [], _∷_, _++_}
+use Prim.Native.Nat.{_%_, _*_, _+_, _-_, _/_, _<_, _≤_, ℕ}
+use mathlib.Core.Path.{_∙_, _≡_, ap, refl, sym}
+use mathlib.Core.Bool.{Bool, false, true}
+use mathlib.Core.List.{[], _++_, _∷_, List}
 use native.Mathlib.Omega.{arith}
 use native.Mathlib.Nat.{sub-zero}
 use lib.Dec.{eqb, ltb}
-use lib.ListN.{length, take, drop}
-use borrow.Author.Tests.{lt-ltb, le-ltb, eq-eqb, ne-eqb, ltb-false}
+use lib.ListN.{drop, length, take}
+use borrow.Author.Tests.{eq-eqb, le-ltb, lt-ltb, ltb-false, ne-eqb}
 use Rattle.digits.proofs.Bools.{and-right}
 use Rattle.put.specs.Wrote.{Held, held, Puts}
 use Rattle.put.proofs.Chain.{put-fits, put-whole}
-use Rattle.sealing.specs.declared.Written.{Written}
-use Rattle.sealing.specs.Written.{refused, wrote}
+use Rattle.frame.specs.declared.Written.{Written}
+use Rattle.frame.specs.Written.{refused, wrote}
 use Rattle.index.specs.declared.Entry.{Entry}
 use Rattle.index.specs.declared.reading.Listed.{Listed}
 use Rattle.index.specs.declared.reading.Scanned.{Scanned}
-use Rattle.index.specs.Index.{origin, fits, inOrder, entryBytes, indexBytes, Listing, listed, noIndex, readIndex, pick}
-use Rattle.index.specs.Answers.{numbersOf, entriesOf, entriesIn, areEntries, writtenIndex, leftIndex, listing, listedFor, laidFor}
-use Rattle.index.specs.Answers.{lastOf, addedTo, addedIndex, leftAdded}
-use Rattle.index.specs.Places.{scanOf, reachedAt, Putting}
+use Rattle.index.specs.Index.{entryBytes, fits, indexBytes, inOrder, listed, Listing, noIndex, origin, readIndex}
+use Rattle.digits.specs.Pick.{pick}
+use Rattle.index.specs.Answers.{addedIndex, addedTo, areEntries, entriesIn, entriesOf, laidFor, lastOf, leftAdded, leftIndex}
+use Rattle.index.specs.Answers.{listedFor, listing, numbersOf, writtenIndex}
+use Rattle.index.specs.Places.{Putting, reachedAt, scanOf}
 
 -- Going over the bytes tells whether they are an index, how many entries it has, and the last.
 pub scan-none : (x : Listing) (r : Scanned) → r ≡ scanOf x → r .whole ≡ false → x ≡ noIndex

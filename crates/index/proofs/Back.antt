@@ -1,17 +1,17 @@
 -- An entry's bytes are read as that entry, and bytes that read as an entry are its bytes: by the same of the three numbers.
-use Prim.Native.Nat.{ℕ, suc, _+_, _-_, _≤_, _<_}
-use mathlib.Core.Path.{_≡_, refl, sym, ap, _∙_}
-use mathlib.Core.Bool.{Bool, true, false}
-use mathlib.Core.List.{List, [], _∷_, _++_, append-assoc}
+use Prim.Native.Nat.{_+_, _-_, _<_, _≤_, suc, ℕ}
+use mathlib.Core.Path.{_∙_, _≡_, ap, refl, sym}
+use mathlib.Core.Bool.{Bool, false, true}
+use mathlib.Core.List.{[], _++_, _∷_, append-assoc, List}
 use native.Mathlib.Omega.{arith}
 use native.Mathlib.Nat.{add-sub-cancel-left}
 use lib.ListN.{length, length-append}
-use Rattle.sevens.specs.Sevens.{most, sevens, takeSevens, Took}
-use Rattle.sevens.specs.Sevens as S
-use Rattle.sevens.proofs.Groups.{sevens-back, sevens-only, sevens-some}
+use Rattle.index_sevens.specs.Sevens.{most, sevens, takeSevens, Took}
+use Rattle.index_sevens.specs.Sevens as S
+use Rattle.index_sevens.proofs.Groups.{sevens-back, sevens-only, sevens-some}
 use Rattle.index.specs.declared.Entry.{Entry}
-use Rattle.index.specs.Index.{endOf, fits, entryBytes, Head, entry, short, bad, thenTook, pick, entryBehind, lengthOf, skipOf}
-use Rattle.index.specs.Index.{entryOf}
+use Rattle.index.specs.Index.{bad, endOf, entry, entryBehind, entryBytes, entryOf, fits, Head, lengthOf, short, skipOf, thenTook}
+use Rattle.digits.specs.Pick.{pick}
 use Rattle.index.proofs.Ranges.{Fits, fits-is}
 
 pub same-entry : (a b : Entry) → a .number ≡ b .number → a .offset ≡ b .offset → a .length ≡ b .length → a ≡ b

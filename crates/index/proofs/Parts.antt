@@ -1,18 +1,19 @@
 -- The three numbers of an entry at a place, one after the other: what is taken of each decides what the rest comes to.
-use Prim.Native.Nat.{ℕ, _+_, _-_, _≤_, _<_}
-use mathlib.Core.Path.{_≡_, refl, sym, ap, _∙_}
-use mathlib.Core.Bool.{Bool, true, false}
+use Prim.Native.Nat.{_+_, _-_, _<_, _≤_, ℕ}
+use mathlib.Core.Path.{_∙_, _≡_, ap, refl, sym}
+use mathlib.Core.Bool.{Bool, false, true}
 use mathlib.Core.List.{List}
 use native.Mathlib.Omega.{arith}
-use lib.ListN.{length, getD, drop, length-drop}
-use Rattle.sevens.specs.Sevens.{takeSevens}
-use Rattle.sevens.specs.Sevens as S
-use Rattle.sevens.proofs.Taking.{TakenUp, taken-small}
+use lib.ListN.{drop, getD, length, length-drop}
+use Rattle.index_sevens.specs.Sevens.{takeSevens}
+use Rattle.index_sevens.specs.Sevens as S
+use Rattle.index_sevens.proofs.Taking.{taken-small, TakenUp}
 use Rattle.index.specs.declared.Entry.{Entry}
 use Rattle.index.specs.declared.Next.{Next}
 use Rattle.index.specs.declared.Next.the-variants as N
-use Rattle.index.specs.Index.{Head, entry, short, bad, pick, fits, entryBehind, lengthOf, skipOf, entryOf}
-use Rattle.index.specs.Places.{nextAt, Near}
+use Rattle.index.specs.Index.{bad, entry, entryBehind, entryOf, fits, Head, lengthOf, short, skipOf}
+use Rattle.digits.specs.Pick.{pick}
+use Rattle.index.specs.Places.{Near, nextAt}
 
 picked : (n : ℕ) (t : Bool) (e : Entry) (rest : List ℕ) (a : ℕ) → a ≡ n - length rest
     → pick t (N.Is e a) N.Bad ≡ nextAt n (pick t (entry e rest) bad)

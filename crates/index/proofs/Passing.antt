@@ -1,20 +1,20 @@
 -- Going on over entries of three bytes: each is read as an entry that fits behind the one before it and is not the one wanted, so that what
 -- the rest comes to is the same before it and behind it.
-use Prim.Native.Nat.{ℕ, _+_, _-_, _≤_}
-use mathlib.Core.Path.{_≡_, refl, ap, _∙_}
-use mathlib.Core.Bool.{true, _&&_}
+use Prim.Native.Nat.{_+_, _-_, _≤_, ℕ}
+use mathlib.Core.Path.{_∙_, _≡_, ap, refl}
+use mathlib.Core.Bool.{_&&_, true}
 use mathlib.Core.List.{List}
 use native.Mathlib.Omega.{arith}
-use lib.Dec.{ltb, leb}
-use lib.ListN.{length, getD, drop}
-use borrow.Author.Tests.{ltb-true, leb-true, ne-eqb}
+use lib.Dec.{leb, ltb}
+use lib.ListN.{drop, getD, length}
+use borrow.Author.Tests.{leb-true, ltb-true, ne-eqb}
 use Rattle.digits.proofs.Bools.{and-left, and-right}
-use Rattle.sevens.specs.Sevens.{most}
+use Rattle.index_sevens.specs.Sevens.{most}
 use Rattle.index.specs.declared.Entry.{Entry}
 use Rattle.index.specs.declared.reading.Place.{Place}
-use Rattle.index.specs.Index.{endOf, entryBehind, Listing, listed, noIndex, onto, readFrom}
+use Rattle.index.specs.Index.{endOf, entryBehind, listed, Listing, noIndex, onto, readFrom}
 use Rattle.index.specs.Answers.{findIn, foundIn}
-use Rattle.index.specs.Places.{Near, Quick, scanOn, Passes}
+use Rattle.index.specs.Places.{Near, Passes, Quick, scanOn}
 use Rattle.index.proofs.Ranges.{Fits, is-fits}
 use Rattle.index.proofs.Back.{same-entry}
 use Rattle.index.proofs.Parts.{near-is}

@@ -1,25 +1,25 @@
 -- What writing comes to, entry by entry: the order of the rest decides the order of all, and the bytes counted so far and those of the
 -- rest are all of them.
-use Prim.Native.Nat.{ℕ, _+_, _-_, _%_, _≤_, _<_}
-use mathlib.Core.Path.{_≡_, refl, sym, ap, _∙_}
-use mathlib.Core.Bool.{Bool, true, false, _&&_}
-use mathlib.Core.List.{List, [], _∷_, _++_}
+use Prim.Native.Nat.{_%_, _+_, _-_, _<_, _≤_, ℕ}
+use mathlib.Core.Path.{_∙_, _≡_, ap, refl, sym}
+use mathlib.Core.Bool.{_&&_, Bool, false, true}
+use mathlib.Core.List.{[], _++_, _∷_, List}
 use native.Mathlib.Omega.{arith}
 use native.Mathlib.Nat.{sub-zero}
-use lib.Dec.{eqb, ltb, leb}
-use lib.ListN.{length, getD, drop, length-append}
-use borrow.Author.Tests.{lt-ltb, le-ltb, eq-eqb, ne-eqb, ltb-true, leb-true}
+use lib.Dec.{eqb, leb, ltb}
+use lib.ListN.{drop, getD, length, length-append}
+use borrow.Author.Tests.{eq-eqb, le-ltb, leb-true, lt-ltb, ltb-true, ne-eqb}
 use Rattle.digits.proofs.Bools.{and-left, and-right}
-use Rattle.sealing.specs.Written.{refused, wrote}
-use Rattle.sevens.specs.Sevens.{most, sevens}
-use Rattle.sevens.proofs.Groups.{sevens-most}
+use Rattle.frame.specs.Written.{refused, wrote}
+use Rattle.index_sevens.specs.Sevens.{most, sevens}
+use Rattle.index_sevens.proofs.Groups.{sevens-most}
 use Rattle.index.specs.declared.Entry.{Entry}
 use Rattle.index.specs.declared.writing.Reached.{Reached}
-use Rattle.index.specs.Index.{origin, endOf, fits, inOrder, entryBytes, bytesFrom, indexBytes}
-use Rattle.index.specs.Answers.{entriesOf, threeAt, areEntries, writtenIndex}
-use Rattle.index.specs.Places.{tip, Small, reachedAt, bytesLeft, Planning}
+use Rattle.index.specs.Index.{bytesFrom, endOf, entryBytes, fits, indexBytes, inOrder, origin}
+use Rattle.index.specs.Answers.{areEntries, entriesOf, threeAt, writtenIndex}
+use Rattle.index.specs.Places.{bytesLeft, Planning, reachedAt, Small, tip}
 use Rattle.index.proofs.Ranges.{Fits, fits-is, is-fits}
-use Rattle.index.proofs.Threes.{order-next, bytes-next, three-bytes}
+use Rattle.index.proofs.Threes.{bytes-next, order-next, three-bytes}
 
 -- The tests that the code makes of three numbers.
 abbrev tested : List ℕ → ℕ → ℕ → ℕ → Bool

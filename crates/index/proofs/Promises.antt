@@ -1,26 +1,26 @@
 -- The index beside a log, from what its functions answer: what is written reads back, what is found is the entry with that number, what is
 -- added stands behind what was there, and numbers ascend. Each from the laws of lists of entries, by going along them.
-use Prim.Native.Nat.{ℕ, zero, suc, _+_, _-_, _%_, _≤_, _<_}
-use mathlib.Core.Path.{_≡_, refl, sym, ap, _∙_}
-use mathlib.Core.Bool.{Bool, true, false, cond, _&&_}
-use mathlib.Core.List.{List, [], _∷_, _++_, append-assoc}
+use Prim.Native.Nat.{_%_, _+_, _-_, _<_, _≤_, suc, zero, ℕ}
+use mathlib.Core.Path.{_∙_, _≡_, ap, refl, sym}
+use mathlib.Core.Bool.{_&&_, Bool, cond, false, true}
+use mathlib.Core.List.{[], _++_, _∷_, append-assoc, List}
 use native.Mathlib.Omega.{arith}
 use lib.Dec.{eqb, ltb}
-use lib.ListN.{length, take, drop, length-append, length-take}
-use lib.Seq.{take-at, length-take-le}
-use borrow.Author.Tests.{ltb-false, le-ltb, eqb-true, eq-eqb, ne-eqb}
+use lib.ListN.{drop, length, length-append, length-take, take}
+use lib.Seq.{length-take-le, take-at}
+use borrow.Author.Tests.{eq-eqb, eqb-true, le-ltb, ltb-false, ne-eqb}
 use Rattle.digits.proofs.Bools.{and-left, and-right}
-use Rattle.sealing.specs.declared.Written.{Written}
-use Rattle.sealing.specs.Written.{refused, wrote}
+use Rattle.frame.specs.declared.Written.{Written}
+use Rattle.frame.specs.Written.{refused, wrote}
 use Rattle.index.specs.declared.Entry.{Entry}
 use Rattle.index.specs.declared.reading.Found.{Found}
 use Rattle.index.specs.declared.reading.Listed.{Listed}
-use Rattle.index.specs.Index.{origin, fits, inOrder, entryBytes, bytesFrom, indexBytes, Listing, listed, noIndex, readIndex, pick}
-use Rattle.index.specs.Answers.{numbersOf, entriesOf, areEntries, writtenIndex, leftIndex, listing, listedFor, laidFor, lastOf}
-use Rattle.index.specs.Answers.{entriesIn}
-use Rattle.index.specs.Answers.{addedTo, addedIndex, grownBy, leftAdded, finding, findIn, foundIn}
+use Rattle.index.specs.Index.{bytesFrom, entryBytes, fits, indexBytes, inOrder, listed, Listing, noIndex, origin, readIndex}
+use Rattle.digits.specs.Pick.{pick}
+use Rattle.index.specs.Answers.{addedIndex, addedTo, areEntries, entriesIn, entriesOf, findIn, finding, foundIn, grownBy, laidFor}
+use Rattle.index.specs.Answers.{lastOf, leftAdded, leftIndex, listedFor, listing, numbersOf, writtenIndex}
 use Rattle.index.proofs.Ranges.{fits-is}
-use Rattle.index.proofs.Lists.{from-back, from-only, same-entries, bytes-more, order-more}
+use Rattle.index.proofs.Lists.{bytes-more, from-back, from-only, order-more, same-entries}
 
 -- An entry stands in a list.
 pub data Stands (e : Entry) : List Entry → Type 0 where

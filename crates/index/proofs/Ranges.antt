@@ -1,17 +1,18 @@
 -- What fits behind an entry: the tests taken apart and put together again, and the tests that the code makes without a sum that could wrap.
-use Prim.Native.Nat.{ℕ, _+_, _-_, _≤_, _<_}
-use mathlib.Core.Path.{_≡_, refl, sym, ap, _∙_}
-use mathlib.Core.Bool.{Bool, true, false, _&&_, _||_}
-use mathlib.Core.List.{List, [], _∷_, _++_}
+use Prim.Native.Nat.{_+_, _-_, _<_, _≤_, ℕ}
+use mathlib.Core.Path.{_∙_, _≡_, ap, refl, sym}
+use mathlib.Core.Bool.{_&&_, _||_, Bool, false, true}
+use mathlib.Core.List.{[], _++_, _∷_, List}
 use native.Mathlib.Omega.{arith}
-use lib.Dec.{ltb, leb}
-use borrow.Author.Tests.{lt-ltb, le-ltb, le-leb, lt-leb, ltb-true, ltb-false, leb-true, leb-false}
+use lib.Dec.{leb, ltb}
+use borrow.Author.Tests.{le-leb, le-ltb, leb-false, leb-true, lt-leb, lt-ltb, ltb-false, ltb-true}
 use Rattle.digits.proofs.Bools.{and-left, and-right, true-false}
-use Rattle.sevens.specs.Sevens.{most}
-use Rattle.sevens.proofs.Groups.{sevens-small}
+use Rattle.index_sevens.specs.Sevens.{most}
+use Rattle.index_sevens.proofs.Groups.{sevens-small}
 use Rattle.index.specs.declared.Entry.{Entry}
 use Rattle.index.specs.declared.Next.the-variants as N
-use Rattle.index.specs.Index.{endOf, fits, entryBytes, pick, entryBehind}
+use Rattle.index.specs.Index.{endOf, entryBehind, entryBytes, fits}
+use Rattle.digits.specs.Pick.{pick}
 
 -- A sum against a limit, tested by a difference.
 pub sum-within : (a b m : ℕ) → a ≤ m → leb b (m - a) ≡ leb (a + b) m

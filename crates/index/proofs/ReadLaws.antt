@@ -1,13 +1,13 @@
 -- Reading by laws: no bytes are no entries, an entry goes before what the bytes behind it read as, and bytes that no entry begins with are
 -- no index. The number of turns does not matter where it is more than the bytes, since every entry takes some.
-use Prim.Native.Nat.{ℕ, zero, suc, _≤_, _<_}
-use mathlib.Core.Path.{_≡_, refl, sym, ap, _∙_}
-use mathlib.Core.List.{List, [], _∷_}
+use Prim.Native.Nat.{_<_, _≤_, suc, zero, ℕ}
+use mathlib.Core.Path.{_∙_, _≡_, ap, refl, sym}
+use mathlib.Core.List.{[], _∷_, List}
 use native.Mathlib.Omega.{arith}
 use lib.ListN.{length}
-use Rattle.sevens.specs.Sevens.{takeSevens, takeGroups}
+use Rattle.index_sevens.specs.Sevens.{takeGroups, takeSevens}
 use Rattle.index.specs.declared.Entry.{Entry}
-use Rattle.index.specs.Index.{Head, entry, short, bad, entryOf, Listing, listed, noIndex, onto, thenHead, turnsFrom, readFrom}
+use Rattle.index.specs.Index.{bad, entry, entryOf, Head, listed, Listing, noIndex, onto, readFrom, short, thenHead, turnsFrom}
 use Rattle.index.proofs.Back.{entry-shorter}
 
 enough : (n m : ℕ) (before : Entry) (s : List ℕ) → length s < n → length s < m → turnsFrom n before s ≡ turnsFrom m before s

@@ -1,16 +1,17 @@
 -- Going over an index: what is known so far, and what the rest reads as, give what the whole comes to.
-use Prim.Native.Nat.{ℕ, suc, _+_}
-use mathlib.Core.Path.{_≡_, refl, ap}
-use mathlib.Core.Bool.{Bool, true, false, _&&_}
-use mathlib.Core.List.{List, [], _∷_}
+use Prim.Native.Nat.{_+_, suc, ℕ}
+use mathlib.Core.Path.{_≡_, ap, refl}
+use mathlib.Core.Bool.{_&&_, Bool, false, true}
+use mathlib.Core.List.{[], _∷_, List}
 use native.Mathlib.Omega.{arith}
 use lib.Dec.{eqb}
 use lib.ListN.{length}
 use Rattle.index.specs.declared.Entry.{Entry}
 use Rattle.index.specs.declared.reading.Found.{Found}
 use Rattle.index.specs.declared.reading.Scanned.{Scanned}
-use Rattle.index.specs.Index.{origin, Listing, listed, noIndex, onto, pick}
-use Rattle.index.specs.Answers.{lastOf, finding, findIn, foundIn, bestOf}
+use Rattle.index.specs.Index.{listed, Listing, noIndex, onto, origin}
+use Rattle.digits.specs.Pick.{pick}
+use Rattle.index.specs.Answers.{bestOf, findIn, finding, foundIn, lastOf}
 use Rattle.index.specs.Places.{scanOf, scanOn}
 
 counted : (n m : ℕ) (e : Entry) → n ≡ m → _≡_ {A = Scanned} (record { whole = true; count = n; last = e })

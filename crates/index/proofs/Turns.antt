@@ -1,17 +1,18 @@
 -- Reading in turns: an entry, and bytes that no entry begins with, say the same whatever comes behind them; so the whole entries of some
 -- bytes, and then the bytes kept with those that come, are what all the bytes read as.
-use Prim.Native.Nat.{ℕ, zero, suc, _<_}
-use mathlib.Core.Path.{_≡_, refl, sym, ap, _∙_}
-use mathlib.Core.Bool.{Bool, true, false}
-use mathlib.Core.List.{List, [], _∷_, _++_}
+use Prim.Native.Nat.{_<_, suc, zero, ℕ}
+use mathlib.Core.Path.{_∙_, _≡_, ap, refl, sym}
+use mathlib.Core.Bool.{Bool, false, true}
+use mathlib.Core.List.{[], _++_, _∷_, List}
 use native.Mathlib.Omega.{arith}
-use Rattle.sevens.specs.Sevens.{takeSevens, Took}
-use Rattle.sevens.specs.Sevens as S
-use Rattle.sevens.proofs.Turns as T
+use Rattle.index_sevens.specs.Sevens.{takeSevens, Took}
+use Rattle.index_sevens.specs.Sevens as S
+use Rattle.index_sevens.proofs.Turns as T
 use Rattle.index.specs.declared.Entry.{Entry}
-use Rattle.index.specs.Index.{fits, Head, entry, short, bad, thenTook, pick, entryBehind, lengthOf, skipOf, entryOf}
-use Rattle.index.specs.Index.{Listing, listed, noIndex, onto, readFrom}
-use Rattle.index.proofs.ReadLaws.{read-next, read-bad}
+use Rattle.index.specs.Index.{bad, entry, entryBehind, entryOf, fits, Head, lengthOf, listed, Listing, noIndex, onto, readFrom, short}
+use Rattle.index.specs.Index.{skipOf, thenTook}
+use Rattle.digits.specs.Pick.{pick}
+use Rattle.index.proofs.ReadLaws.{read-bad, read-next}
 
 abbrev pub more : List ℕ → Head → Head
 more t (entry e rest) = entry e (rest ++ t)

@@ -1,16 +1,17 @@
 -- What writing, reading, adding and finding come to. Refusals, with line and field 0, in this order: 11 bytes that are no index, 12 no
 -- such exhibit, 5 entries out of range or order, 8 a lent buffer that is too short. A refusal leaves what was lent.
-use Prim.Native.Nat.{ℕ, suc, _+_, _%_}
-use mathlib.Core.Bool.{Bool, _&&_}
-use mathlib.Core.List.{List, [], _∷_, _++_}
-use lib.Dec.{ltb, eqb}
-use lib.ListN.{length, getD, take, drop}
-use Rattle.sealing.specs.declared.Written.{Written}
-use Rattle.sealing.specs.Written.{refused, wrote}
+use Prim.Native.Nat.{_%_, _+_, suc, ℕ}
+use mathlib.Core.Bool.{_&&_, Bool}
+use mathlib.Core.List.{[], _++_, _∷_, List}
+use lib.Dec.{eqb, ltb}
+use lib.ListN.{drop, getD, length, take}
+use Rattle.frame.specs.declared.Written.{Written}
+use Rattle.frame.specs.Written.{refused, wrote}
 use Rattle.index.specs.declared.Entry.{Entry}
 use Rattle.index.specs.declared.reading.Listed.{Listed}
 use Rattle.index.specs.declared.reading.Found.{Found}
-use Rattle.index.specs.Index.{origin, fits, inOrder, entryBytes, indexBytes, Listing, listed, noIndex, readIndex, pick}
+use Rattle.index.specs.Index.{entryBytes, fits, indexBytes, inOrder, listed, Listing, noIndex, origin, readIndex}
+use Rattle.digits.specs.Pick.{pick}
 
 -- Entries as numbers, three an entry, and back.
 unfoldable pub numbersOf : List Entry → List ℕ

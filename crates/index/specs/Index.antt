@@ -1,13 +1,14 @@
 -- The index beside a log. Each entry is an exhibit number, the byte offset of its line and the line's length. Stored are the gap in number
 -- from the entry before (at least 1; the first from 0), the gap from the end of the line before to this start (at least 0), and the
 -- length (7 to 82), each in groups of seven bits. Numbers and end offsets stay within 4294967295.
-use Prim.Native.Nat.{ℕ, zero, suc, _+_, _-_}
-use mathlib.Core.Bool.{Bool, true, false, _&&_}
-use mathlib.Core.List.{List, [], _∷_, _++_}
-use lib.Dec.{ltb, leb}
+use Prim.Native.Nat.{_+_, _-_, suc, zero, ℕ}
+use mathlib.Core.Bool.{_&&_, Bool, true}
+use mathlib.Core.List.{[], _++_, _∷_, List}
+use lib.Dec.{leb, ltb}
 use lib.ListN.{length}
-use Rattle.sevens.specs.Sevens.{most, sevens, takeSevens, Took}
-use Rattle.sevens.specs.Sevens as S
+use Rattle.digits.specs.Pick.{pick}
+use Rattle.index_sevens.specs.Sevens as S
+use Rattle.index_sevens.specs.Sevens.{most, sevens, takeSevens, Took}
 use Rattle.index.specs.declared.Entry.{Entry}
 
 -- What stands before the first entry.
@@ -52,10 +53,6 @@ abbrev pub thenTook : Took → (ℕ → List ℕ → Head) → Head
 thenTook (S.value v rest) go = go v rest
 thenTook S.short go = short
 thenTook S.bad go = bad
-
-abbrev pub pick : {A : Type 0} → Bool → A → A → A
-pick true a b = a
-pick false a b = b
 
 abbrev pub entryBehind : Entry → ℕ → ℕ → ℕ → Entry
 entryBehind before gap skip size = record { number = before .number + gap; offset = endOf before + skip; length = size }

@@ -1,11 +1,11 @@
 -- An entry at a place of n bytes, by the place behind it; what going over an index once gives; and, for the loops over entries of three
 -- bytes, what holds at a place of an index or of the numbers to write, and between two places.
-use Prim.Native.Nat.{ℕ, _+_, _-_, _*_, _%_, _≤_, _<_}
+use Prim.Native.Nat.{_%_, _*_, _+_, _-_, _<_, _≤_, ℕ}
 use mathlib.Core.Path.{_≡_}
 use mathlib.Core.List.{List}
-use mathlib.Core.Bool.{true, false}
-use lib.ListN.{length, getD, drop}
-use Rattle.sevens.specs.Sevens.{most}
+use mathlib.Core.Bool.{false, true}
+use lib.ListN.{drop, getD, length}
+use Rattle.index_sevens.specs.Sevens.{most}
 use Rattle.put.specs.Wrote.{held, wrote}
 use Rattle.index.specs.declared.Entry.{Entry}
 use Rattle.index.specs.declared.Next.{Next}
@@ -15,9 +15,9 @@ use Rattle.index.specs.declared.reading.Found.{Found}
 use Rattle.index.specs.declared.reading.Place.{Place}
 use Rattle.index.specs.declared.reading.Laid.{Laid}
 use Rattle.index.specs.declared.writing.Reached.{Reached}
-use Rattle.index.specs.Index.{origin, endOf, Head, entry, short, bad, Listing, listed, noIndex, readFrom, readIndex}
-use Rattle.index.specs.Index.{inOrder, bytesFrom, indexBytes}
-use Rattle.index.specs.Answers.{lastOf, numbersOf, entriesOf, entriesIn, foundIn}
+use Rattle.index.specs.Index.{bad, bytesFrom, endOf, entry, Head, indexBytes, inOrder, listed, Listing, noIndex, origin, readFrom}
+use Rattle.index.specs.Index.{readIndex, short}
+use Rattle.index.specs.Answers.{entriesIn, entriesOf, foundIn, lastOf, numbersOf}
 
 abbrev pub nextAt : ℕ → Head → Next
 nextAt n (entry e rest) = N.Is e (n - length rest)

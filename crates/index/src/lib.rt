@@ -2,16 +2,17 @@
 pub mod reading;
 pub mod writing;
 
-use sevens::Taken;
-ghost use mathlib.Core.Path.{_≡_};
+use index_sevens::Taken;
+ghost use Prim.Native.Nat.{_-_, _<_, _≤_};
 ghost use mathlib.Core.Bool;
 ghost use mathlib.Core.List.{[], _∷_};
-ghost use Prim.Native.Nat.{_-_, _≤_, _<_};
-ghost use lib.ListN.{length, drop};
-ghost use Rattle.sevens.specs.Sevens.{most};
+ghost use mathlib.Core.Path.{_≡_};
+ghost use lib.ListN.{drop, length};
+ghost use Rattle.digits.specs.Pick.{pick};
 ghost use Rattle.put.specs.Wrote.{held, Puts};
-ghost use Rattle.index.specs.Index.{origin, fits, entryBytes, pick, entryBehind, entryOf, skipOf, lengthOf};
-ghost use Rattle.index.specs.Places.{nextAt, Near};
+ghost use Rattle.index_sevens.specs.Sevens.{most};
+ghost use Rattle.index.specs.Index.{entryBehind, entryBytes, entryOf, fits, lengthOf, origin, skipOf};
+ghost use Rattle.index.specs.Places.{Near, nextAt};
 ghost use Rattle.index.specs.declared.Next.the-variants as N;
 
 // An exhibit's number, the byte offset of its line in the log, and the line's length.
@@ -77,9 +78,9 @@ fn put_three(out: &mut [u8], at: usize, gap: u64, skip: u64, length: u64) -> usi
 fn put_longer(out: &mut [u8], at: usize, last: Entry, e: Entry) -> usize
     ensures { λ r. ⌜ Puts (held at (now (out .entry))) (entryBytes last e) (held r (now (out .exit))) ⌝ }
 {
-    let a0 = sevens::put(out, at, less(e.number, last.number));
-    let a1 = sevens::put(out, a0, less(less(e.offset, last.offset), last.length));
-    sevens::put(out, a1, e.length)
+    let a0 = index_sevens::put(out, at, less(e.number, last.number));
+    let a1 = index_sevens::put(out, a0, less(less(e.offset, last.offset), last.length));
+    index_sevens::put(out, a1, e.length)
 }
 
 // The same; three numbers of a byte each are put at once.
@@ -98,9 +99,9 @@ pub fn put_entry(out: &mut [u8], at: usize, last: Entry, e: Entry) -> usize
 fn size(last: Entry, e: Entry) -> usize
     ensures { λ r. ⌜ r ≡ length (entryBytes last e) ⌝ }
 {
-    let gap = sevens::size(less(e.number, last.number));
-    let skip = sevens::size(less(less(e.offset, last.offset), last.length));
-    gap + (skip + sevens::size(e.length))
+    let gap = index_sevens::size(less(e.number, last.number));
+    let skip = index_sevens::size(less(less(e.offset, last.offset), last.length));
+    gap + (skip + index_sevens::size(e.length))
 }
 
 // What stands at a place behind an entry: the next entry, and the place behind it; an entry whose bytes end too soon,
@@ -142,7 +143,7 @@ fn with_length(s: &[u8], at: usize, last: Entry, gap: u64, skip: u64) -> Next
     requires { ⌜ (gap ≤ most) × (skip ≤ most) ⌝ }
     ensures { λ r. ⌜ r ≡ nextAt (length (now (s .entry))) (lengthOf last gap skip (drop at (now (s .entry)))) ⌝ }
 {
-    let length = sevens::take(s, at);
+    let length = index_sevens::take(s, at);
     match length {
         Taken::Value(length, a) => made(last, gap, skip, length, a),
         Taken::Short => Next::Short,
@@ -155,7 +156,7 @@ fn with_skip(s: &[u8], at: usize, last: Entry, gap: u64) -> Next
     requires { ⌜ gap ≤ most ⌝ }
     ensures { λ r. ⌜ r ≡ nextAt (length (now (s .entry))) (skipOf last gap (drop at (now (s .entry)))) ⌝ }
 {
-    let skip = sevens::take(s, at);
+    let skip = index_sevens::take(s, at);
     match skip {
         Taken::Value(skip, a) => with_length(s, a, last, gap, skip),
         Taken::Short => Next::Short,
@@ -167,7 +168,7 @@ fn with_skip(s: &[u8], at: usize, last: Entry, gap: u64) -> Next
 fn longer(s: &[u8], at: usize, last: Entry) -> Next
     ensures { λ r. ⌜ r ≡ nextAt (length (now (s .entry))) (entryOf last (drop at (now (s .entry)))) ⌝ }
 {
-    let gap = sevens::take(s, at);
+    let gap = index_sevens::take(s, at);
     match gap {
         Taken::Value(gap, a) => with_skip(s, a, last, gap),
         Taken::Short => Next::Short,

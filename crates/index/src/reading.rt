@@ -1,16 +1,16 @@
 // An index read to numbers, and an exhibit found in it by its number.
 use crate::Entry;
 use crate::Next;
-ghost use mathlib.Core.Path.{_≡_};
+ghost use Prim.Native.Nat.{_+_, _≤_};
 ghost use mathlib.Core.Bool;
 ghost use mathlib.Core.List.{[], _∷_};
-ghost use Prim.Native.Nat.{_+_, _≤_};
+ghost use mathlib.Core.Path.{_≡_};
 ghost use lib.ListN.{length};
-ghost use Rattle.sevens.specs.Sevens.{most};
 ghost use Rattle.put.specs.Wrote.{held, Puts};
+ghost use Rattle.index_sevens.specs.Sevens.{most};
+ghost use Rattle.index.specs.Answers.{bestOf, finding, foundIn, laidFor, listedFor, listing, numbersOf};
 ghost use Rattle.index.specs.Index.{endOf, noIndex, readIndex};
-ghost use Rattle.index.specs.Answers.{numbersOf, listing, listedFor, laidFor, finding, bestOf, foundIn};
-ghost use Rattle.index.specs.Places.{wholeWith, scanOf, Walks, Low, Quick, Starts, Passes, laidAt, Lays, LaysOn};
+ghost use Rattle.index.specs.Places.{laidAt, Lays, LaysOn, Low, Passes, Quick, scanOf, Starts, Walks, wholeWith};
 
 // What reading an index answers: how many entries it has; or the number of the refusal, and then count 0.
 pub struct Listed {

@@ -1,15 +1,16 @@
 // An index written from numbers, and an entry added at its end.
 use crate::Entry;
-use sealing::Written;
-ghost use mathlib.Core.Path.{_≡_};
-ghost use mathlib.Core.Bool;
+use crate::reading;
+use frame::Written;
 ghost use Prim.Native.Nat.{_+_, _≤_};
+ghost use mathlib.Core.Bool;
+ghost use mathlib.Core.Path.{_≡_};
 ghost use lib.ListN.{length};
 ghost use Rattle.put.specs.Wrote.{held, Puts};
-ghost use Rattle.sealing.specs.Written.{wrote};
+ghost use Rattle.frame.specs.Written.{wrote};
+ghost use Rattle.index.specs.Answers.{addedIndex, entriesOf, leftAdded, leftIndex, threeAt, writtenIndex};
 ghost use Rattle.index.specs.Index.{indexBytes};
-ghost use Rattle.index.specs.Answers.{entriesOf, threeAt, writtenIndex, leftIndex, addedIndex, leftAdded};
-ghost use Rattle.index.specs.Places.{Low, Small, reachedAt, Planning, Ordered, Close, Putting, PutsOn};
+ghost use Rattle.index.specs.Places.{Close, Low, Ordered, Planning, PutsOn, Putting, reachedAt, Small};
 
 // Adds `e` at the end of the index in the first `used` bytes of `index`, and answers the length of the index then.
 // Refused: 11 where these bytes are no index or `used` passes the end; 5 where `e` does not fit behind the last entry; 8
@@ -19,19 +20,19 @@ pub fn add(index: &mut [u8], used: usize, e: Entry) -> Written
     ensures { λ _. ⌜ now (index .exit) ≡ leftAdded (now (index .entry)) used e ⌝ }
 {
     if index.len() < used {
-        return sealing::refuse(11, 0, 0);
+        return frame::refuse(11, 0, 0);
     }
-    let scanned = crate::reading::scan(&index[0..used]);
+    let scanned = reading::scan(&index[0..used]);
     if !scanned.whole {
-        return sealing::refuse(11, 0, 0);
+        return frame::refuse(11, 0, 0);
     }
     let last = scanned.last;
     if !crate::fits(last, e) {
-        return sealing::refuse(5, 0, 0);
+        return frame::refuse(5, 0, 0);
     }
     let n = crate::size(last, e);
     if index.len() - used < n {
-        return sealing::refuse(8, 0, 0);
+        return frame::refuse(8, 0, 0);
     }
     crate::put_longer(index, used, last, e);
     wrote(used + n)
@@ -127,7 +128,7 @@ fn planned(entries: &[u64], room: usize) -> Written
         };
         let e = three(entries, reached.at);
         if !crate::fits(last, e) {
-            return sealing::refuse(5, 0, 0);
+            return frame::refuse(5, 0, 0);
         }
         let behind = Reached {
             at: reached.at + 3,
@@ -138,10 +139,10 @@ fn planned(entries: &[u64], room: usize) -> Written
         reached = plan(entries, behind);
     }
     if reached.at != entries.len() {
-        return sealing::refuse(5, 0, 0);
+        return frame::refuse(5, 0, 0);
     }
     if room < reached.used {
-        return sealing::refuse(8, 0, 0);
+        return frame::refuse(8, 0, 0);
     }
     wrote(reached.used)
 }

@@ -1,16 +1,16 @@
 -- The values of a record in words, by the letter of their form.
-use Prim.Native.Nat.{ℕ, _/_, _%_}
+use Prim.Native.Nat.{_%_, _/_, ℕ}
 use Prim.Native.Char.{Char, code}
-use mathlib.Core.List.{List, [], _∷_, _++_}
+use mathlib.Core.List.{[], _++_, _∷_, List}
 use mathlib.Core.Bool.{Bool, cond}
 use lib.Dec.{eqb}
-use lib.IntN.{ℤ, pos, natAbs}
+use lib.IntN.{natAbs, pos, ℤ}
 use lib.Signed.{ltZ}
 use mir.Syntax.{w32}
 use mir.Val.{toZ}
 use Rattle.digits.specs.Ascii.{ascii}
 use Rattle.digits.specs.Decimal.{printFixed}
-use Rattle.forms.specs.Plain.{numberText}
+use Rattle.digits.specs.Plain.{numberText}
 use Rattle.text.specs.Numbers.{decimalText}
 
 -- The one text or the other.

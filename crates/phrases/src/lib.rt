@@ -1,20 +1,19 @@
 // The values of a record in words. A signed value comes as its 32 bits. Each function writes into a lent buffer
 // from the place `at` on, as far as there is room, leaves all other bytes, and answers the next place.
-ghost use mathlib.Core.Path.{_≡_};
 ghost use mathlib.Core.List.{_∷_};
+ghost use mathlib.Core.Path.{_≡_};
 ghost use lib.IntN.{natAbs};
 ghost use mir.Syntax.{w32};
 ghost use mir.Val.{toZ};
 ghost use Rattle.digits.specs.Decimal.{printFixed};
 ghost use Rattle.put.specs.Wrote.{held, Puts};
-ghost use Rattle.phrases.specs.Phrases.{either, isMinus, counted, clockWords, dateWords, hoursWords, zoneWords};
-ghost use Rattle.phrases.specs.Phrases.{angleWords, placeWords, heightWords, variationWords, signedText, measureText};
+ghost use Rattle.phrases.specs.Phrases.{angleWords, clockWords, counted, dateWords, either, heightWords, hoursWords, isMinus, measureText, placeWords, signedText, variationWords, zoneWords};
 
 // A signed value without its sign.
 fn size(n: u32) -> u32
     ensures { λ r. ⌜ r ≡ natAbs (toZ w32 n) ⌝ }
 {
-    ranges::size(slots::signed(n))
+    digits::sign::size(slots::signed(n))
 }
 
 // Whether a signed value is less than zero.

@@ -1,18 +1,19 @@
 -- Texts put one after another: what is put in two steps is put in one, and what a buffer holds from its start is the text, as far as there
 -- was room. Each by going along the bytes that are put.
-use Prim.Native.Nat.{ℕ, suc, _+_, _/_, _%_, _≤_, _<_}
-use mathlib.Core.Path.{_≡_, refl, sym, ap, _∙_}
-use mathlib.Core.List.{List, [], _∷_, _++_, append-assoc, append-nil}
-use mathlib.Core.Bool.{Bool, true, false}
+use Prim.Native.Nat.{_%_, _+_, _/_, _<_, _≤_, suc, ℕ}
+use mathlib.Core.Path.{_∙_, _≡_, ap, refl, sym}
+use mathlib.Core.List.{[], _++_, _∷_, append-assoc, append-nil, List}
+use mathlib.Core.Bool.{Bool, false, true}
 use native.Mathlib.Omega.{arith}
 use native.Mathlib.Nat.{add-zero, zero-add}
 use native.Mathlib.Numerals.{add-one}
 use lib.Dec.{ltb}
-use lib.ListN.{length, getD, set, take, drop, length-set, length-take, take-append-drop, drop-of-length-le}
-use lib.Seq.{drop-cons, drop-set-lt, take-at, take-suc-set, take-all}
-use borrow.Author.Tests.{lt-ltb, le-ltb, ltb-true, ltb-false}
+use lib.ListN.{drop, drop-of-length-le, getD, length, length-set, length-take, set, take, take-append-drop}
+use lib.Seq.{drop-cons, drop-set-lt, take-all, take-at, take-suc-set}
+use borrow.Author.Tests.{le-ltb, lt-ltb, ltb-false, ltb-true}
 use Rattle.digits.specs.Decimal.{printFixed}
-use Rattle.put.specs.Wrote.{Held, held, pick, putOne, wrote, wroteFields, Puts, PutsFields}
+use Rattle.put.specs.Wrote.{Held, held, putOne, Puts, PutsFields, wrote, wroteFields}
+use Rattle.digits.specs.Pick.{pick}
 
 -- One byte, with room and without.
 pub put-room : (p : ℕ) (d : List ℕ) (b : ℕ) → p < length d → Puts (held p d) (b ∷ []) (held (p + 1) (set d p b))

@@ -1,2 +1,3 @@
 pub mod Chain
 pub mod PlainLaws
+pub mod SignTexts

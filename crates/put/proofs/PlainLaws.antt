@@ -1,10 +1,10 @@
 -- How many digits a number has, by the tests of the code in their order.
-use Prim.Native.Nat.{ℕ, _/_, _%_, _≤_, _<_}
+use Prim.Native.Nat.{_%_, _/_, _<_, _≤_, ℕ}
 use mathlib.Core.Path.{_≡_}
 use mathlib.Core.List.{[], _∷_}
-use borrow.Author.Tests.{lt-ltb, le-ltb, eq-eqb, ne-eqb}
+use borrow.Author.Tests.{eq-eqb, le-ltb, lt-ltb, ne-eqb}
 use Rattle.digits.specs.Decimal.{printFixed}
-use Rattle.forms.specs.Plain.{widthOf, plainText, fractionText}
+use Rattle.digits.specs.Plain.{fractionText, plainText, widthOf}
 
 module _ (n : ℕ) where
   pub plain-one : n < 10 → printFixed 1 n ≡ plainText n

@@ -1,10 +1,10 @@
 -- Bytes put into a lent buffer, one after another, as far as there is room.
-use Prim.Native.Nat.{ℕ, suc}
+use Prim.Native.Nat.{suc, ℕ}
+use mathlib.Core.List.{[], _∷_, List}
 use mathlib.Core.Path.{_≡_}
-use mathlib.Core.List.{List, [], _∷_}
-use mathlib.Core.Bool.{Bool, true, false}
 use lib.Dec.{ltb}
 use lib.ListN.{length, set}
+use Rattle.digits.specs.Pick.{pick}
 
 -- A buffer and the place where the next byte goes.
 pub record Held : Type 0 where
@@ -13,10 +13,6 @@ pub record Held : Type 0 where
 
 abbrev pub held : ℕ → List ℕ → Held
 held place bytes = record { place = place; bytes = bytes }
-
-abbrev pub pick : Bool → Held → Held → Held
-pick true a b = a
-pick false a b = b
 
 -- One byte; where there is no room, nothing changes.
 unfoldable pub putOne : Held → ℕ → Held

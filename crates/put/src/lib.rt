@@ -1,12 +1,13 @@
 // Bytes and digits put into a lent buffer: each function writes from the place `at` on, as far as there
 // is room, leaves all other bytes, and answers the next place.
-ghost use mathlib.Core.Path.{_≡_};
+ghost use Prim.Native.Nat.{_%_, _+_, _≤_};
 ghost use mathlib.Core.List.{[], _∷_};
-ghost use Prim.Native.Nat.{_+_, _%_, _≤_};
+ghost use mathlib.Core.Path.{_≡_};
 ghost use lib.ListN.{length};
 ghost use Rattle.digits.specs.Decimal.{printFixed};
+ghost use Rattle.digits.specs.Plain.{fractionText, numberText, plainText};
+ghost use Rattle.digits.specs.Sign.{signText};
 ghost use Rattle.put.specs.Wrote.{held, Puts};
-ghost use Rattle.forms.specs.Plain.{plainText, fractionText, numberText};
 
 pub fn put(out: &mut [u8], at: usize, b: u8) -> usize
     ensures { λ r. ⌜ Puts (held at (now (out .entry))) (b ∷ []) (held r (now (out .exit))) ⌝ }
@@ -157,4 +158,14 @@ pub fn put_number(out: &mut [u8], at: usize, v: u32) -> usize
 {
     let a = put_plain(out, at, v / 1000);
     put_fraction(out, a, v % 1000)
+}
+
+// The minus of a value that is less than zero.
+pub fn put_sign(out: &mut [u8], at: usize, z: i32) -> usize
+    ensures { λ r. ⌜ Puts (held at (now (out .entry))) (signText z) (held r (now (out .exit))) ⌝ }
+{
+    if z < 0 {
+        return put(out, at, 45);
+    }
+    at
 }

@@ -1,7 +1,7 @@
 -- A body read by the ends that were kept: up to 20 of them give all fields; with more fields every kind refuses the count, whatever
 -- the fields are.
-use Prim.Native.Nat.{ℕ, _-_, _≤_, _<_}
-use mathlib.Core.Path.{_≡_, refl, sym, _∙_, ap}
+use Prim.Native.Nat.{_-_, _<_, _≤_, ℕ}
+use mathlib.Core.Path.{_∙_, _≡_, ap, refl, sym}
 use mathlib.Core.List.{List}
 use native.Mathlib.Omega.{arith}
 use mathlib.Core.Bool.{false}
@@ -10,7 +10,7 @@ use lib.ListN.{length, replicate}
 use lib.Seq.{sets}
 use borrow.Author.Tests.{ne-eqb}
 use Rattle.address.specs.declared.Address.{Address}
-use Rattle.address.specs.declared.Address.the-variants.{Standard, Maker, Unknown}
+use Rattle.address.specs.declared.Address.the-variants.{Maker, Standard, Unknown}
 use Rattle.address.specs.declared.Kind.{Kind}
 use Rattle.address.specs.declared.Kind.the-variants as K
 use Rattle.address.specs.declared.Pir.{Pir}
@@ -18,31 +18,31 @@ use Rattle.address.specs.declared.Pir.the-variants as P
 use Rattle.address.specs.declared.Talker.{Talker}
 use Rattle.address.specs.Address.{addressOf}
 use Rattle.fields.specs.Fields.{fieldsOf}
-use Rattle.fields.specs.Places.{Placed, endsFrom, fieldsBy, theFields}
+use Rattle.fields.specs.Places.{endsFrom, fieldsBy, Placed, theFields}
 use Rattle.fields.proofs.Splitting.{first-field}
 use Rattle.fields.proofs.AllFields.{all-fields}
 use Rattle.records.specs.declared.Reading.{Reading}
 use Rattle.records.specs.declared.Sentence.the-variants.{Refused}
 use Rattle.records.specs.declared.Sentence.the-variants as S
 use Rattle.records.specs.Blank.{aloneOf}
-use Rattle.navigation.specs.Gga.{ggaRow}
-use Rattle.navigation.specs.Gll.{gllRow}
-use Rattle.navigation.specs.Rmc.{rmcRow}
-use Rattle.navigation.specs.Vtg.{vtgRow}
-use Rattle.navigation.specs.Zda.{zdaRow}
-use Rattle.satellites.specs.Active.{gsaBeside, gsaMade, gsaRow, refused}
-use Rattle.satellites.specs.View.{entriesOf, gsvWith, gsvOf}
-use Rattle.commands.specs.Pirpr.{pirprRow}
-use Rattle.commands.specs.Pirtr.{pirtrRow}
-use Rattle.commands.specs.Pirsr.{pirsrRow}
-use Rattle.commands.specs.Pirer.{pirerRow}
-use Rattle.commands.specs.Pirpa.{pirpaRow}
-use Rattle.commands.specs.Pirta.{pirtaRow}
-use Rattle.commands.specs.Pirsa.{pirsaRow}
-use Rattle.commands.specs.Pirea.{pireaRow}
-use Rattle.row.specs.Row.{Row}
-use Rattle.row.specs.Kind.{readBy}
-use Rattle.reading.specs.Lines.{standardOf, makerOf, addressed, readBody}
+use Rattle.kind_gga.specs.Row.{ggaRow}
+use Rattle.kind_gll.specs.Row.{gllRow}
+use Rattle.kind_rmc.specs.Row.{rmcRow}
+use Rattle.kind_vtg.specs.Row.{vtgRow}
+use Rattle.kind_zda.specs.Row.{zdaRow}
+use Rattle.kind_gsa.specs.Row.{gsaBeside, gsaMade, gsaRow, refused}
+use Rattle.kind_gsv.specs.Row.{entriesOf, gsvOf, gsvWith}
+use Rattle.kind_pir_port.specs.Command.{pirprRow}
+use Rattle.kind_pir_datum.specs.Command.{pirtrRow}
+use Rattle.kind_pir_masks.specs.Command.{pirsrRow}
+use Rattle.kind_pir_code.specs.Command.{pirerRow}
+use Rattle.kind_pir_port.specs.Reply.{pirpaRow}
+use Rattle.kind_pir_datum.specs.Reply.{pirtaRow}
+use Rattle.kind_pir_masks.specs.Reply.{pirsaRow}
+use Rattle.kind_pir_code.specs.Reply.{pireaRow}
+use Rattle.form.specs.Row.{Row}
+use Rattle.form.specs.Kind.{readBy}
+use Rattle.reading.specs.Lines.{addressed, makerOf, readBody, standardOf}
 
 -- Every body has a field, its address.
 pub some-field : (b : List ℕ) → 1 ≤ length (fieldsOf b)

@@ -1,38 +1,38 @@
 -- No address but that of GSV gives a GSV sentence, and it gives one of its own talker.
 use Prim.Native.Nat.{ℕ}
 use lib.Dec.{eqb, ltb}
-use mathlib.Core.Bool.{Bool, true, false}
+use mathlib.Core.Bool.{Bool, false, true}
 use mathlib.Core.List.{List}
 use mathlib.Core.Path.{_≡_, ap, refl}
 use Rattle.address.specs.declared.Address.{Address}
-use Rattle.address.specs.declared.Address.the-variants.{Standard, Maker, Unknown}
+use Rattle.address.specs.declared.Address.the-variants.{Maker, Standard, Unknown}
 use Rattle.address.specs.declared.Kind.{Kind}
 use Rattle.address.specs.declared.Kind.the-variants as K
 use Rattle.address.specs.declared.Pir.{Pir}
 use Rattle.address.specs.declared.Pir.the-variants as P
 use Rattle.address.specs.declared.Talker.{Talker}
-use Rattle.commands.specs.Pirea.{pireaRow}
-use Rattle.commands.specs.Pirer.{pirerRow}
-use Rattle.commands.specs.Pirpa.{pirpaRow}
-use Rattle.commands.specs.Pirpr.{pirprRow}
-use Rattle.commands.specs.Pirsa.{pirsaRow}
-use Rattle.commands.specs.Pirsr.{pirsrRow}
-use Rattle.commands.specs.Pirta.{pirtaRow}
-use Rattle.commands.specs.Pirtr.{pirtrRow}
+use Rattle.kind_pir_code.specs.Reply.{pireaRow}
+use Rattle.kind_pir_code.specs.Command.{pirerRow}
+use Rattle.kind_pir_port.specs.Reply.{pirpaRow}
+use Rattle.kind_pir_port.specs.Command.{pirprRow}
+use Rattle.kind_pir_masks.specs.Reply.{pirsaRow}
+use Rattle.kind_pir_masks.specs.Command.{pirsrRow}
+use Rattle.kind_pir_datum.specs.Reply.{pirtaRow}
+use Rattle.kind_pir_datum.specs.Command.{pirtrRow}
 use Rattle.digits.proofs.Bools.{true-false}
-use Rattle.forms.specs.Got.{pick}
-use Rattle.navigation.specs.Gga.{ggaRow}
-use Rattle.navigation.specs.Gll.{gllRow}
-use Rattle.navigation.specs.Rmc.{rmcRow}
-use Rattle.navigation.specs.Vtg.{vtgRow}
-use Rattle.navigation.specs.Zda.{zdaRow}
+use Rattle.digits.specs.Pick.{pick}
+use Rattle.kind_gga.specs.Row.{ggaRow}
+use Rattle.kind_gll.specs.Row.{gllRow}
+use Rattle.kind_rmc.specs.Row.{rmcRow}
+use Rattle.kind_vtg.specs.Row.{vtgRow}
+use Rattle.kind_zda.specs.Row.{zdaRow}
 use Rattle.records.specs.declared.Reading.{Reading}
 use Rattle.records.specs.declared.Sentence.{Sentence}
 use Rattle.records.specs.declared.Sentence.the-variants as S
-use Rattle.row.specs.Kind.{answerBy, readBy}
-use Rattle.row.specs.Row.{Row}
-use Rattle.satellites.specs.Active.{gsaBeside, gsaMade, gsaRow}
-use Rattle.satellites.specs.View.{entriesOf, gsvBeside, gsvOf, gsvRow, gsvWith, refused, Values}
+use Rattle.form.specs.Kind.{answerBy, readBy}
+use Rattle.form.specs.Row.{Row}
+use Rattle.kind_gsa.specs.Row.{gsaBeside, gsaMade, gsaRow}
+use Rattle.kind_gsv.specs.Row.{entriesOf, gsvBeside, gsvOf, gsvRow, gsvWith, refused, Values}
 use Rattle.reading.specs.Lines.{addressed}
 
 -- Whether a sentence is GSV.

@@ -1,11 +1,11 @@
 -- A line read: 1 and 2 by the line rule, 3 for an unknown address, then the kind's own 4 and 5, or its record.
-use Prim.Native.Nat.{ℕ, _-_}
+use Prim.Native.Nat.{_-_, ℕ}
 use mathlib.Core.List.{List}
 use lib.Dec.{eqb}
 use lib.ListN.{length}
-use Rattle.line.specs.Line.{lineRefusal, bodyOf}
+use Rattle.line.specs.Line.{bodyOf, lineRefusal}
 use Rattle.address.specs.declared.Address.{Address}
-use Rattle.address.specs.declared.Address.the-variants.{Standard, Maker, Unknown}
+use Rattle.address.specs.declared.Address.the-variants.{Maker, Standard, Unknown}
 use Rattle.address.specs.declared.Kind.{Kind}
 use Rattle.address.specs.declared.Kind.the-variants as K
 use Rattle.address.specs.declared.Pir.{Pir}
@@ -14,26 +14,26 @@ use Rattle.address.specs.declared.Talker.{Talker}
 use Rattle.address.specs.Address.{addressOf}
 use Rattle.fields.specs.Fields.{fieldsOf}
 use Rattle.fields.specs.Places.{theFields}
-use Rattle.forms.specs.Got.{pick}
+use Rattle.digits.specs.Pick.{pick}
 use Rattle.records.specs.declared.Reading.{Reading}
 use Rattle.records.specs.declared.Sentence.{Sentence}
-use Rattle.records.specs.declared.Sentence.the-variants.{Gga, Gll, Gsa, Gsv, Rmc, Vtg, Zda, Pr, Tr, Sr, Er, Pa, Ta, Sa, Ea, Refused}
+use Rattle.records.specs.declared.Sentence.the-variants.{Ea, Er, Gga, Gll, Gsa, Gsv, Pa, Pr, Refused, Rmc, Sa, Sr, Ta, Tr, Vtg, Zda}
 use Rattle.records.specs.Blank.{aloneOf}
-use Rattle.navigation.specs.Gga.{ggaOf}
-use Rattle.navigation.specs.Gll.{gllOf}
-use Rattle.navigation.specs.Rmc.{rmcOf}
-use Rattle.navigation.specs.Vtg.{vtgOf}
-use Rattle.navigation.specs.Zda.{zdaOf}
-use Rattle.satellites.specs.Active.{gsaOf}
-use Rattle.satellites.specs.View.{gsvOf}
-use Rattle.commands.specs.Pirpr.{pirprOf}
-use Rattle.commands.specs.Pirtr.{pirtrOf}
-use Rattle.commands.specs.Pirsr.{pirsrOf}
-use Rattle.commands.specs.Pirer.{pirerOf}
-use Rattle.commands.specs.Pirpa.{pirpaOf}
-use Rattle.commands.specs.Pirta.{pirtaOf}
-use Rattle.commands.specs.Pirsa.{pirsaOf}
-use Rattle.commands.specs.Pirea.{pireaOf}
+use Rattle.kind_gga.specs.Row.{ggaOf}
+use Rattle.kind_gll.specs.Row.{gllOf}
+use Rattle.kind_rmc.specs.Row.{rmcOf}
+use Rattle.kind_vtg.specs.Row.{vtgOf}
+use Rattle.kind_zda.specs.Row.{zdaOf}
+use Rattle.kind_gsa.specs.Row.{gsaOf}
+use Rattle.kind_gsv.specs.Row.{gsvOf}
+use Rattle.kind_pir_port.specs.Command.{pirprOf}
+use Rattle.kind_pir_datum.specs.Command.{pirtrOf}
+use Rattle.kind_pir_masks.specs.Command.{pirsrOf}
+use Rattle.kind_pir_code.specs.Command.{pirerOf}
+use Rattle.kind_pir_port.specs.Reply.{pirpaOf}
+use Rattle.kind_pir_datum.specs.Reply.{pirtaOf}
+use Rattle.kind_pir_masks.specs.Reply.{pirsaOf}
+use Rattle.kind_pir_code.specs.Reply.{pireaOf}
 use Rattle.reading.specs.declared.Refusal.{Refusal}
 
 -- A talker's sentence of n fields.

@@ -5,23 +5,22 @@ use address::Pir;
 use address::Talker;
 use records::Reading;
 use records::Sentence;
-use records::blank;
 ghost use mathlib.Core.Path.{_≡_};
 ghost use Rattle.fields.specs.Places.{fieldsBy};
-ghost use Rattle.reading.specs.Lines.{standardOf, makerOf, readBody, readLine, refusalOf};
+ghost use Rattle.reading.specs.Lines.{makerOf, readBody, readLine, refusalOf, standardOf};
 
 // A sentence of a talker, by its type.
 fn standard(t: Talker, k: Kind, n: usize, s: &[u8], p: &[usize]) -> Reading
     ensures { λ r. ⌜ r ≡ standardOf t k n (fieldsBy (now (p .entry)) (now (s .entry))) ⌝ }
 {
     match k {
-        Kind::Gga => blank::alone(navigation::gga::read(t, n, s, p)),
-        Kind::Gll => blank::alone(navigation::gll::read(t, n, s, p)),
-        Kind::Gsa => satellites::gsa::read(t, n, s, p),
-        Kind::Gsv => satellites::gsv::read(t, n, s, p),
-        Kind::Rmc => blank::alone(navigation::rmc::read(t, n, s, p)),
-        Kind::Vtg => blank::alone(navigation::vtg::read(t, n, s, p)),
-        Kind::Zda => blank::alone(navigation::zda::read(t, n, s, p)),
+        Kind::Gga => records::blank::alone(kind_gga::read(t, n, s, p)),
+        Kind::Gll => records::blank::alone(kind_gll::read(t, n, s, p)),
+        Kind::Gsa => kind_gsa::read(t, n, s, p),
+        Kind::Gsv => kind_gsv::read(t, n, s, p),
+        Kind::Rmc => records::blank::alone(kind_rmc::read(t, n, s, p)),
+        Kind::Vtg => records::blank::alone(kind_vtg::read(t, n, s, p)),
+        Kind::Zda => records::blank::alone(kind_zda::read(t, n, s, p)),
     }
 }
 
@@ -30,14 +29,14 @@ fn maker(k: Pir, n: usize, s: &[u8], p: &[usize]) -> Reading
     ensures { λ r. ⌜ r ≡ makerOf k n (fieldsBy (now (p .entry)) (now (s .entry))) ⌝ }
 {
     match k {
-        Pir::Pr => blank::alone(commands::pirpr::read(n, s, p)),
-        Pir::Tr => blank::alone(commands::pirtr::read(n, s, p)),
-        Pir::Sr => blank::alone(commands::pirsr::read(n, s, p)),
-        Pir::Er => blank::alone(commands::pirer::read(n, s, p)),
-        Pir::Pa => blank::alone(commands::pirpa::read(n, s, p)),
-        Pir::Ta => blank::alone(commands::pirta::read(n, s, p)),
-        Pir::Sa => blank::alone(commands::pirsa::read(n, s, p)),
-        Pir::Ea => blank::alone(commands::pirea::read(n, s, p)),
+        Pir::Pr => records::blank::alone(kind_pir_port::command::read(n, s, p)),
+        Pir::Tr => records::blank::alone(kind_pir_datum::command::read(n, s, p)),
+        Pir::Sr => records::blank::alone(kind_pir_masks::command::read(n, s, p)),
+        Pir::Er => records::blank::alone(kind_pir_code::command::read(n, s, p)),
+        Pir::Pa => records::blank::alone(kind_pir_port::reply::read(n, s, p)),
+        Pir::Ta => records::blank::alone(kind_pir_datum::reply::read(n, s, p)),
+        Pir::Sa => records::blank::alone(kind_pir_masks::reply::read(n, s, p)),
+        Pir::Ea => records::blank::alone(kind_pir_code::reply::read(n, s, p)),
     }
 }
 
@@ -50,16 +49,16 @@ fn read_body(s: &[u8]) -> Reading
     let address = address::address_of(s);
     if 20 < count {
         return match address {
-            Address::Standard(_, _) => blank::alone(Sentence::Refused(4, 0)),
-            Address::Maker(_) => blank::alone(Sentence::Refused(4, 0)),
-            Address::Unknown => blank::alone(Sentence::Refused(3, 0)),
+            Address::Standard(_, _) => records::blank::alone(Sentence::Refused(4, 0)),
+            Address::Maker(_) => records::blank::alone(Sentence::Refused(4, 0)),
+            Address::Unknown => records::blank::alone(Sentence::Refused(3, 0)),
         };
     }
     let n = count - 1;
     match address {
         Address::Standard(t, k) => standard(t, k, n, s, &ends),
         Address::Maker(k) => maker(k, n, s, &ends),
-        Address::Unknown => blank::alone(Sentence::Refused(3, 0)),
+        Address::Unknown => records::blank::alone(Sentence::Refused(3, 0)),
     }
 }
 
@@ -72,7 +71,7 @@ pub fn read_line(line: &[u8]) -> Reading
 {
     let no = line::line_refusal(line);
     if no != 0 {
-        return blank::alone(Sentence::Refused(no, 0));
+        return records::blank::alone(Sentence::Refused(no, 0));
     }
     let end = line.len() - 5;
     read_body(&line[1..end])

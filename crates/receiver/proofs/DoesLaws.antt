@@ -1,14 +1,15 @@
 -- The ways out of a command: refused, it hands back the old settings and leaves the output; with its reply written, or refused for its room,
 -- the writer's answer decides.
 use Prim.Native.Nat.{ℕ}
-use mathlib.Core.Path.{_≡_, refl, ap, _∙_}
+use mathlib.Core.Path.{_∙_, _≡_, ap, refl}
 use mathlib.Core.List.{List}
 use lib.Dec.{eqb}
-use Rattle.sealing.specs.declared.Written.{Written}
-use Rattle.sealing.specs.Written.{pick, refused, Writes}
+use Rattle.frame.specs.declared.Written.{Written}
+use Rattle.digits.specs.Pick.{pick}
+use Rattle.frame.specs.Written.{refused, Writes}
 use Rattle.receiver.specs.declared.Done.{Done}
 use Rattle.receiver.specs.declared.Settings.{Settings}
-use Rattle.receiver.specs.Command.{Outcome, refuses, replies, Does, handedOver}
+use Rattle.receiver.specs.Command.{Does, handedOver, Outcome, refuses, replies}
 
 pub does-refuse : (s : Settings) (o : Outcome) (out : List ℕ) (d : Done) (n k f : ℕ) → d ≡ record { written = refused n k f; settings = s } → o ≡ refuses n k f → Does s o out d out
 does-refuse s o out d n k f e q = rw q (record { answers = ap (λ (x : Done). x .written) e; settings = ap (λ (x : Done). x .settings) e; leaves = refl })

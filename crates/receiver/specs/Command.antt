@@ -16,16 +16,17 @@ use Rattle.records.specs.declared.PortTold.{PortTold}
 use Rattle.records.specs.declared.Sentence.{Sentence}
 use Rattle.records.specs.declared.Sentence.the-variants as S
 use Rattle.reading.specs.Lines.{readLine}
-use Rattle.sealing.specs.declared.Written.{Written}
-use Rattle.sealing.specs.Written.{pick, refused, faultAt, writtenOf, leftOf}
-use Rattle.writecom.specs.Pirea.{pireaWrong, pireaBody}
-use Rattle.writecom.specs.Pirpa.{pirpaWrong, pirpaBody}
-use Rattle.writecom.specs.Pirsa.{pirsaWrong, pirsaBody}
-use Rattle.writecom.specs.Pirta.{pirtaWrong, pirtaBody}
+use Rattle.frame.specs.declared.Written.{Written}
+use Rattle.digits.specs.Pick.{pick}
+use Rattle.frame.specs.Written.{faultAt, leftOf, refused, writtenOf}
+use Rattle.kind_pir_code.specs.Reply.{pireaBody, pireaWrong}
+use Rattle.kind_pir_port.specs.Reply.{pirpaBody, pirpaWrong}
+use Rattle.kind_pir_masks.specs.Reply.{pirsaBody, pirsaWrong}
+use Rattle.kind_pir_datum.specs.Reply.{pirtaBody, pirtaWrong}
 use Rattle.receiver.specs.declared.Done.{Done}
 use Rattle.receiver.specs.declared.Port.{Port}
 use Rattle.receiver.specs.declared.Settings.{Settings}
-use Rattle.receiver.specs.Settings.{portOf, withPort, settingsGood}
+use Rattle.receiver.specs.Settings.{portOf, settingsGood, withPort}
 
 -- PIRPR names port 0 or 1, or, empty, the port it arrived on. An empty rate is a question.
 abbrev pub namedPort : ℕ → PortAsked → ℕ

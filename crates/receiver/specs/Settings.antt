@@ -1,13 +1,18 @@
 -- Settings: two ports (rate, protocol, mask), datum, zone, GPS mask, GLONASS mask, self-test code 0 to 255. At start: 4800, protocol 4,
 -- mask 007F on both; datum 0; zone 0; all satellites; code 0.
-use Prim.Native.Nat.{ℕ, zero, suc}
-use mathlib.Core.Bool.{Bool, true, _&&_}
+use Prim.Native.Nat.{suc, zero, ℕ}
+use mathlib.Core.Bool.{_&&_, Bool, true}
 use lib.Dec.{eqb}
 use lib.IntN.{pos}
 use lib.Count.{ones}
-use Rattle.forms.specs.Limits.{rateLeast, rateMost, protocolMost, datumMost, zoneMost, gpsMost, glonassMost, codeMost}
-use Rattle.ranges.specs.Ranges.{outside, portWrong, signedWrong}
-use Rattle.sealing.specs.Written.{pick}
+use Rattle.form_mask.specs.Rates.{codeMost, rateLeast, rateMost}
+use Rattle.kind_pir_port.specs.Command.{protocolMost}
+use Rattle.kind_pir_datum.specs.Command.{datumMost}
+use Rattle.form_date.specs.Zone.{zoneMost}
+use Rattle.kind_pir_masks.specs.Command.{glonassMost, gpsMost}
+use Rattle.form.specs.Values.{outside, signedWrong}
+use Rattle.form_mask.specs.Masks.{portWrong}
+use Rattle.digits.specs.Pick.{pick}
 use Rattle.receiver.specs.declared.Counts.{Counts}
 use Rattle.receiver.specs.declared.Port.{Port}
 use Rattle.receiver.specs.declared.Settings.{Settings}

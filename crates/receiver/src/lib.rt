@@ -1,6 +1,7 @@
 // The class receiver: its settings, and what a command makes of them.
 pub mod state;
 
+use frame::Written;
 use records::CodeTold;
 use records::DatumAsked;
 use records::DatumTold;
@@ -9,12 +10,11 @@ use records::MasksTold;
 use records::PortAsked;
 use records::PortTold;
 use records::Sentence;
-use sealing::Written;
-ghost use mathlib.Core.Path.{_≡_};
 ghost use mathlib.Core.Bool.{cond};
+ghost use mathlib.Core.Path.{_≡_};
+ghost use Rattle.frame.specs.Written.{refused};
 ghost use Rattle.reading.specs.Lines.{readLine};
-ghost use Rattle.sealing.specs.Written.{refused};
-ghost use Rattle.receiver.specs.Command.{namedPort, afterPort, afterDatum, afterMasks, portTold, datumTold, portReply, datumReply, masksReply, codeReply, sentenceOutcome, outcomeOf, Does, handedOver};
+ghost use Rattle.receiver.specs.Command.{afterDatum, afterMasks, afterPort, codeReply, datumReply, datumTold, Does, handedOver, masksReply, namedPort, outcomeOf, portReply, portTold, sentenceOutcome};
 
 // What one port is set to.
 pub struct Port {
@@ -69,7 +69,7 @@ fn refuse(s: Settings, no: u8, line: usize, field: usize) -> Done
     ensures { λ d. ⌜ d ≡ record { written = refused no line field; settings = s } ⌝ }
 {
     Done {
-        written: sealing::refuse(no, line, field),
+        written: frame::refuse(no, line, field),
         settings: s,
     }
 }
@@ -172,7 +172,7 @@ impl Settings {
     {
         let new = after_port(self, arrival, r);
         let told = port_told(new, named_port(arrival, r));
-        let written = writecom::pirpa::write(out, told);
+        let written = kind_pir_port::reply::write(out, told);
         hand_over(written, self, new)
     }
 
@@ -182,7 +182,7 @@ impl Settings {
     {
         let new = after_datum(self, r);
         let told = datum_told(new);
-        let written = writecom::pirta::write(out, told);
+        let written = kind_pir_datum::reply::write(out, told);
         hand_over(written, self, new)
     }
 
@@ -195,7 +195,7 @@ impl Settings {
             gps: new.gps,
             glonass: new.glonass,
         };
-        let written = writecom::pirsa::write(out, told);
+        let written = kind_pir_masks::reply::write(out, told);
         hand_over(written, self, new)
     }
 
@@ -204,7 +204,7 @@ impl Settings {
         ensures { λ d. ⌜ Does self (codeReply self) (now (out .entry)) d (now (out .exit)) ⌝ }
     {
         let told = CodeTold { code: self.code };
-        let written = writecom::pirea::write(out, told);
+        let written = kind_pir_code::reply::write(out, told);
         hand_over(written, self, self)
     }
 }

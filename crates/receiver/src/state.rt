@@ -3,7 +3,7 @@ use crate::Counts;
 use crate::Port;
 use crate::Settings;
 ghost use mathlib.Core.Path.{_≡_};
-ghost use Rattle.receiver.specs.Settings.{atStart, portOf, withPort, portGood, settingsGood, countsOf};
+ghost use Rattle.receiver.specs.Settings.{atStart, countsOf, portGood, portOf, settingsGood, withPort};
 
 // At start: 4800, protocol 4 and mask 007F on both ports; datum 0; zone 0; all satellites; code 0.
 pub fn at_start() -> Settings
@@ -50,9 +50,9 @@ pub fn with_port(mut s: Settings, n: u32, p: Port) -> Settings
 fn is_port_good(p: Port) -> bool
     ensures { λ b. ⌜ b ≡ portGood p ⌝ }
 {
-    let rate = ranges::within(p.rate, 1200, 115200) == 0;
-    let protocol = ranges::within(p.protocol, 0, 4) == 0;
-    let mask = ranges::port_mask(true, p.mask) == 0;
+    let rate = form::range::within(p.rate, 1200, 115200) == 0;
+    let protocol = form::range::within(p.protocol, 0, 4) == 0;
+    let mask = form_mask::range::port_mask(true, p.mask) == 0;
     rate & (protocol & mask)
 }
 
@@ -64,11 +64,11 @@ pub fn are_good(s: Settings) -> bool
     let two = s.second;
     let first = is_port_good(one);
     let second = is_port_good(two);
-    let datum = ranges::within(s.datum, 0, 4) == 0;
-    let zone = ranges::signed(true, s.zone, 839) == 0;
-    let gps = ranges::within(s.gps, 0, 4294967295) == 0;
-    let glonass = ranges::within(s.glonass, 0, 16777215) == 0;
-    let code = ranges::within(s.code, 0, 255) == 0;
+    let datum = form::range::within(s.datum, 0, 4) == 0;
+    let zone = form::range::signed(true, s.zone, 839) == 0;
+    let gps = form::range::within(s.gps, 0, 4294967295) == 0;
+    let glonass = form::range::within(s.glonass, 0, 16777215) == 0;
+    let code = form::range::within(s.code, 0, 255) == 0;
     first & (second & (datum & (zone & (gps & (glonass & code)))))
 }
 

@@ -1,20 +1,14 @@
 -- Blank records: all values missing and zero.
-use mathlib.Core.Bool.{Bool, false, not, _&&_}
+use mathlib.Core.Bool.{_&&_, Bool}
 use lib.Dec.{eqb}
+use lib.ListN.{replicate}
+use Rattle.form.specs.Values.{isMissing, noMaybe}
+use Rattle.form_number.specs.Values.{noNumber}
 use Rattle.records.specs.declared.Entry.{Entry}
 use Rattle.records.specs.declared.Gsa.{Gsa}
 use Rattle.records.specs.declared.Gsv.{Gsv}
 use Rattle.records.specs.declared.Reading.{Reading}
 use Rattle.records.specs.declared.Sentence.{Sentence}
-use Rattle.records.specs.declared.values.Maybe.{Maybe}
-use Rattle.records.specs.declared.values.Number.{Number}
-use lib.ListN.{replicate}
-
-abbrev pub noMaybe : Maybe
-noMaybe = record { there = false; value = 0 }
-
-abbrev pub noNumber : Number
-noNumber = record { there = false; value = 0 }
 
 abbrev pub blankEntry : Entry
 blankEntry = record { number = 0; elevation = noMaybe; azimuth = noMaybe; signal = noMaybe }
@@ -24,10 +18,6 @@ blankGsa = record { selection = 0; fix = 0; satellites = replicate 12 noMaybe; p
 
 abbrev pub blankGsv : Gsv
 blankGsv = record { lines = 0; line = 0; satellites = 0; count = 0; entries = replicate 4 blankEntry }
-
--- Blank is number 0 and three values missing and zero.
-abbrev pub isMissing : Maybe → Bool
-isMissing m = not (m .there) && eqb (m .value) 0
 
 unfoldable pub isBlank : Entry → Bool
 isBlank e = eqb (e .number) 0 && (isMissing (e .elevation) && (isMissing (e .azimuth) && isMissing (e .signal)))

@@ -1,3 +1,1 @@
-pub mod Keep
-pub mod Wrong
 pub mod Blank

@@ -4,10 +4,12 @@ use crate::Gsa;
 use crate::Gsv;
 use crate::Reading;
 use crate::Sentence;
-use crate::values::Maybe;
-use crate::values::Number;
+use form::Maybe;
+use form_number::Number;
 ghost use mathlib.Core.Path.{_≡_};
-ghost use Rattle.records.specs.Blank.{noMaybe, noNumber, blankEntry, blankGsa, blankGsv, aloneOf};
+ghost use Rattle.form.specs.Values.{noMaybe};
+ghost use Rattle.form_number.specs.Values.{noNumber};
+ghost use Rattle.records.specs.Blank.{aloneOf, blankEntry, blankGsa, blankGsv};
 
 fn no_maybe() -> Maybe
     ensures { λ r. ⌜ r ≡ noMaybe ⌝ }

@@ -1,18 +1,16 @@
 // The records of the fifteen kinds of sentence. A value that may be missing carries its own mark, and
 // is held as zero where it is missing.
 pub mod blank;
-pub mod keep;
-pub mod values;
 
 use address::Talker;
-use values::Date;
-use values::Kmh;
-use values::Knots;
-use values::Maybe;
-use values::Number;
-use values::Place;
-use values::Signed;
-use values::Zone;
+use form::Maybe;
+use form_date::Date;
+use form_date::Zone;
+use form_number::Kmh;
+use form_number::Knots;
+use form_number::Number;
+use form_number::Signed;
+use form_position::Place;
 
 pub struct Gga {
     pub time: Maybe,

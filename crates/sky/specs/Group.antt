@@ -1,16 +1,16 @@
 -- The group. Line k must be GSV and carry number k. Line 1's total must be satellites/4 rounded up, at least 1. Later lines repeat talker,
 -- total and satellite count. Line k has the smaller of 4 and (satellites minus 4(k-1)) entries. No satellite number occurs twice. Nothing
 -- follows the announced last line. A line that does not read ends the group at once. The answer is the talker and the entries in order.
-use Prim.Native.Nat.{ℕ, _+_, _-_, _*_, _/_}
-use mathlib.Core.List.{List, [], _∷_, _++_}
-use mathlib.Core.Bool.{Bool, false, _&&_, _||_, cond}
-use mathlib.Core.Option.{Option, none, some}
-use lib.Dec.{eqb, ltb, leb}
+use Prim.Native.Nat.{_*_, _+_, _-_, _/_, ℕ}
+use mathlib.Core.List.{[], _++_, _∷_, List}
+use mathlib.Core.Bool.{_&&_, _||_, Bool, cond, false}
+use mathlib.Core.Option.{none, Option, some}
+use lib.Dec.{eqb, leb, ltb}
 use lib.ListN.{take}
 use Rattle.address.specs.declared.Talker.{Talker}
-use Rattle.address.specs.declared.Talker.the-variants.{Gp, Gl, Ga, Gq, Gn}
-use Rattle.forms.specs.Got.{pick}
-use Rattle.lines.specs.Reader.{Step, next, stop, readLines}
+use Rattle.address.specs.declared.Talker.the-variants.{Ga, Gl, Gn, Gp, Gq}
+use Rattle.digits.specs.Pick.{pick}
+use Rattle.lines.specs.Reader.{next, readLines, Step, stop}
 use Rattle.records.specs.declared.Entry.{Entry}
 use Rattle.records.specs.declared.Gsv.{Gsv}
 use Rattle.records.specs.declared.Sentence.{Sentence}

@@ -1,11 +1,11 @@
 -- The bytes in which a group's reader and writer mark the satellite numbers that it has had. Nothing here is needed to know what a group is.
-use Prim.Native.Nat.{ℕ, _<_}
+use Prim.Native.Nat.{_<_, ℕ}
 use mathlib.Core.Path.{_≡_}
 use mathlib.Core.List.{List}
-use mathlib.Core.Bool.{Bool, true, _&&_, cond}
+use mathlib.Core.Bool.{_&&_, Bool, cond, true}
 use lib.Dec.{eqb}
-use lib.ListN.{length, getD, set}
-use Rattle.forms.specs.Got.{pick}
+use lib.ListN.{getD, length, set}
+use Rattle.digits.specs.Pick.{pick}
 use Rattle.records.specs.declared.Entry.{Entry}
 use Rattle.sky.specs.Group.{numbered}
 

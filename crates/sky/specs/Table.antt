@@ -1,24 +1,25 @@
 -- A table written as a group. Refusals in order: a table of over 36 entries is 5 with line 0 and field 0; then, entry by entry, 5 with the
 -- line and field where the value would stand and 7 with the line; then an unused place that is not blank is 5 with line 0 and field 0; then
 -- 8 with line 0. A refusal leaves the output; on success the bytes past the written length stay.
-use Prim.Native.Nat.{ℕ, zero, suc, _+_, _-_, _*_, _/_, _%_}
+use Prim.Native.Nat.{_%_, _*_, _+_, _-_, _/_, suc, zero, ℕ}
 use mathlib.Core.Path.{_≡_}
-use mathlib.Core.List.{List, [], _∷_, _++_}
-use mathlib.Core.Bool.{Bool, true, _&&_}
+use mathlib.Core.List.{[], _++_, _∷_, List}
+use mathlib.Core.Bool.{_&&_, Bool, true}
 use lib.Dec.{eqb, ltb}
-use lib.ListN.{length, take, drop}
+use lib.ListN.{drop, length, take}
 use Rattle.line.specs.Line.{asLine}
 use Rattle.address.specs.declared.Talker.{Talker}
 use Rattle.lines.specs.Cut.{joined}
 use Rattle.records.specs.declared.Entry.{Entry}
 use Rattle.records.specs.declared.Gsv.{Gsv}
-use Rattle.records.specs.Wrong.{firstWrong}
-use Rattle.sealing.specs.declared.Written.{Written}
-use Rattle.sealing.specs.Written.{pick, refused, wrote}
-use Rattle.writesat.specs.Gsv.{entryAfters, gsvBody}
+use Rattle.form.specs.Wrong.{firstWrong}
+use Rattle.frame.specs.declared.Written.{Written}
+use Rattle.digits.specs.Pick.{pick}
+use Rattle.frame.specs.Written.{refused, wrote}
+use Rattle.kind_gsv.specs.Writing.{entryAfters, gsvBody}
 use Rattle.records.specs.Blank.{isBlank}
 use Rattle.sky.specs.declared.Table.{Table}
-use Rattle.sky.specs.Group.{linesFor, entriesAt, numbered}
+use Rattle.sky.specs.Group.{entriesAt, linesFor, numbered}
 
 -- The first of two that is a refusal.
 abbrev pub orElse : Written → Written → Written

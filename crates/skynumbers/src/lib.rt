@@ -1,16 +1,15 @@
 // A table of satellites and its talker as 254 numbers in a lent slice.
 use address::Talker;
+use form::Maybe;
 use records::Entry;
-use records::blank;
-use records::values::Maybe;
 use sky::Table;
-ghost use mathlib.Core.Path.{_≡_};
 ghost use Prim.Native.Nat.{_≤_};
+ghost use mathlib.Core.Path.{_≡_};
 ghost use lib.Dec.{leb};
 ghost use lib.ListN.{length};
 ghost use Rattle.slots.specs.Slots.{laid};
-ghost use Rattle.skynumbers.specs.Numbers.{entryNumbers, skyNumbers, entryAt, tableAt};
 ghost use Rattle.fromnumbers.specs.Values.{maybeAt};
+ghost use Rattle.skynumbers.specs.Numbers.{entryAt, entryNumbers, skyNumbers, tableAt};
 
 // Stores the seven numbers of an entry at the start of `out`, where there is room for them.
 fn lay_entry(out: &mut [u32], e: Entry) -> bool
@@ -82,7 +81,7 @@ fn entry_at(numbers: &[u32], i: usize) -> Entry
 pub fn table_at(numbers: &[u32]) -> Table
     ensures { λ r. ⌜ r ≡ tableAt (now (numbers .entry)) ⌝ }
 {
-    let none = blank::entry();
+    let none = records::blank::entry();
     let mut entries = [none; 36];
     let mut i: usize = 0;
     while i < 36 {

@@ -1,15 +1,12 @@
 -- Numbers in a lent slice: how values that are no numbers are said by them.
 use Prim.Native.Nat.{ℕ}
-use mathlib.Core.List.{List, _++_}
-use mathlib.Core.Bool.{Bool, true, false, not, cond}
+use mathlib.Core.Bool.{Bool, cond, not}
+use mathlib.Core.List.{_++_, List}
 use lib.Dec.{eqb, leb}
-use lib.ListN.{length, drop}
+use lib.ListN.{drop, length}
+use Rattle.digits.specs.Pick.{pick}
 use Rattle.address.specs.declared.Talker.{Talker}
 use Rattle.address.specs.declared.Talker.the-variants as T
-
-abbrev pub pick : {A : Type 0} → Bool → A → A → A
-pick true a b = a
-pick false a b = b
 
 -- A mark is 1 where a value is there and 0 where it is missing; any number but 0 is taken as there.
 abbrev pub markOf : Bool → ℕ

@@ -2,10 +2,10 @@
 use address::Talker;
 ghost use mathlib.Core.Path.{_≡_};
 ghost use lib.Dec.{leb};
-ghost use lib.ListN.{length, getD};
+ghost use lib.ListN.{getD, length};
 ghost use mir.Syntax.{w32};
 ghost use mir.Val.{ofZ, toZ};
-ghost use Rattle.slots.specs.Slots.{markOf, isThere, laid, talkerNumber, talkerOf};
+ghost use Rattle.slots.specs.Slots.{isThere, laid, markOf, talkerNumber, talkerOf};
 
 // The number at place `i`; 0 past the end.
 pub fn at(numbers: &[u32], i: usize) -> u32
@@ -53,7 +53,7 @@ pub fn bits(v: i32) -> u32
     ensures { λ r. ⌜ r ≡ ofZ w32 v ⌝ }
 {
     if v < 0 {
-        return (4294967296 - ranges::size(v) as u64) as u32;
+        return (4294967296 - digits::sign::size(v) as u64) as u32;
     }
     v as u32
 }

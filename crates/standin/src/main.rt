@@ -1,10 +1,10 @@
 // The stand-in receiver for class: commands on standard input, replies on standard output, and a row on standard error
 // for each refusal.
+use frame::Written;
 use libc::STDERR_FILENO;
 use libc::STDIN_FILENO;
 use libc::STDOUT_FILENO;
 use receiver::Settings;
-use sealing::Written;
 
 // Puts what a number of refusal means.
 fn put_meaning(out: &mut [u8], at: usize, no: u8) -> usize {

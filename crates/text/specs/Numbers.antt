@@ -1,10 +1,10 @@
 -- Numbers as texts: decimal digits without needless zeros.
-use Prim.Native.Nat.{ℕ, zero, suc, _+_, _/_, _%_}
-use mathlib.Core.List.{List, [], _∷_, _++_}
+use Prim.Native.Nat.{_%_, _+_, _/_, suc, zero, ℕ}
+use mathlib.Core.List.{[], _++_, _∷_, List}
 use mathlib.Core.Bool.{cond}
 use lib.Dec.{ltb}
-use lib.IntN.{ℤ, natAbs}
-use Rattle.forms.specs.Sign.{signText}
+use lib.IntN.{natAbs, ℤ}
+use Rattle.digits.specs.Sign.{signText}
 
 -- The digits of a number that has no more than w of them: those before the last, where there are any, and the last.
 unfoldable pub digitsWithin : ℕ → ℕ → List ℕ

@@ -1,18 +1,18 @@
 -- The values of a record as numbers, each behind its blank, in the order of docs/LAYOUT.md: a mark, 1 where the value is there and 0
 -- where it is missing, and the numbers of the value.
 use Prim.Native.Nat.{ℕ}
-use mathlib.Core.List.{List, [], _∷_, _++_}
-use mathlib.Core.Bool.{Bool, true, false}
+use mathlib.Core.List.{[], _++_, _∷_, List}
+use mathlib.Core.Bool.{Bool, false, true}
 use Rattle.digits.specs.Ascii.{ascii}
-use Rattle.records.specs.declared.values.Date.{Date}
-use Rattle.records.specs.declared.values.Kmh.{Kmh}
-use Rattle.records.specs.declared.values.Knots.{Knots}
-use Rattle.records.specs.declared.values.Maybe.{Maybe}
-use Rattle.records.specs.declared.values.Number.{Number}
-use Rattle.records.specs.declared.values.Place.{Place}
-use Rattle.records.specs.declared.values.Signed.{Signed}
-use Rattle.records.specs.declared.values.Zone.{Zone}
-use Rattle.text.specs.Numbers.{valueText, intText}
+use Rattle.form_date.specs.declared.Date.{Date}
+use Rattle.form_number.specs.declared.Kmh.{Kmh}
+use Rattle.form_number.specs.declared.Knots.{Knots}
+use Rattle.form.specs.declared.Maybe.{Maybe}
+use Rattle.form_number.specs.declared.Number.{Number}
+use Rattle.form_position.specs.declared.Place.{Place}
+use Rattle.form_number.specs.declared.Signed.{Signed}
+use Rattle.form_date.specs.declared.Zone.{Zone}
+use Rattle.text.specs.Numbers.{intText, valueText}
 
 abbrev pub markText : Bool → List ℕ
 markText true = ascii " 1"

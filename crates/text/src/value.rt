@@ -1,15 +1,15 @@
 // The values of a record as numbers, in the order of docs/LAYOUT.md.
-use records::values::Date;
-use records::values::Kmh;
-use records::values::Knots;
-use records::values::Maybe;
-use records::values::Number;
-use records::values::Place;
-use records::values::Signed;
-use records::values::Zone;
+use form::Maybe;
+use form_date::Date;
+use form_date::Zone;
+use form_number::Kmh;
+use form_number::Knots;
+use form_number::Number;
+use form_number::Signed;
+use form_position::Place;
 ghost use Rattle.put.specs.Wrote.{held, Puts};
-ghost use Rattle.text.specs.Numbers.{valueText, intText};
-ghost use Rattle.text.specs.Values.{markText, maybeNumbers, thousandthNumbers, signedNumbers, knotsNumbers, kmhNumbers, placeNumbers, dateNumbers, zoneNumbers};
+ghost use Rattle.text.specs.Numbers.{intText, valueText};
+ghost use Rattle.text.specs.Values.{dateNumbers, kmhNumbers, knotsNumbers, markText, maybeNumbers, placeNumbers, signedNumbers, thousandthNumbers, zoneNumbers};
 
 pub fn put_value(out: &mut [u8], at: usize, v: u32) -> usize
     ensures { λ r. ⌜ Puts (held at (now (out .entry))) (valueText v) (held r (now (out .exit))) ⌝ }
@@ -23,8 +23,8 @@ pub fn put_int(out: &mut [u8], at: usize, v: i32) -> usize
     ensures { λ r. ⌜ Puts (held at (now (out .entry))) (intText v) (held r (now (out .exit))) ⌝ }
 {
     let a0 = put::put(out, at, 32);
-    let a1 = texts::put_sign(out, a0, v);
-    crate::put_number(out, a1, ranges::size(v) as u64)
+    let a1 = put::put_sign(out, a0, v);
+    crate::put_number(out, a1, digits::sign::size(v) as u64)
 }
 
 // 1 where a value is there, 0 where it is missing.

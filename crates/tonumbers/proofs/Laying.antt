@@ -1,20 +1,21 @@
 -- Laying a record: equal rows are laid alike, the sentence of a reading decides its numbers, and a row that is taken number by number from
 -- its parts is those parts one after another.
 use Prim.Native.Nat.{ℕ}
-use mathlib.Core.Path.{_≡_, sym, _∙_, ap}
+use mathlib.Core.Path.{_∙_, _≡_, ap, sym}
 use mathlib.Core.Bool.{Bool, true}
-use mathlib.Core.List.{List, [], _∷_}
+use mathlib.Core.List.{[], _∷_, List}
 use native.Mathlib.Omega.{arith}
 use borrow.Author.Tests.{le-leb}
 use lib.Dec.{leb}
-use lib.ListN.{length, getD}
+use lib.ListN.{getD, length}
 use Rattle.address.specs.declared.Talker.{Talker}
 use Rattle.records.specs.declared.Gsa.{Gsa}
 use Rattle.records.specs.declared.Gsv.{Gsv}
 use Rattle.records.specs.declared.Reading.{Reading}
 use Rattle.records.specs.declared.Sentence.{Sentence}
-use Rattle.slots.specs.Slots.{pick, laid, talkerNumber}
-use Rattle.tonumbers.specs.Layout.{numbersOf, sentenceNumbers, sixFrom, lastSix, gsaNumbers, entry, entryIn, gsvNumbers}
+use Rattle.digits.specs.Pick.{pick}
+use Rattle.slots.specs.Slots.{laid, talkerNumber}
+use Rattle.tonumbers.specs.Layout.{entry, entryIn, gsaNumbers, gsvNumbers, lastSix, numbersOf, sentenceNumbers, sixFrom}
 
 module _ (out : List ℕ) {b : Bool} {left : List ℕ} where
   pub laid-as : (ms ns : List ℕ) → ms ≡ ns → (b ≡ leb (length ns) (length out)) × (left ≡ laid ns out) → (b ≡ leb (length ms) (length out)) × (left ≡ laid ms out)

@@ -1,8 +1,8 @@
 -- Records as numbers, as docs/LAYOUT.md lays them out: a value that may be missing is a mark and the value, a position a mark, latitude and
 -- longitude, a date a mark, day, month and year. A signed value is its 32 bits. A talker's sentence has the talker's number first.
-use Prim.Native.Nat.{ℕ, _+_}
+use Prim.Native.Nat.{_+_, ℕ}
 use mathlib.Core.Bool.{Bool}
-use mathlib.Core.List.{List, [], _∷_}
+use mathlib.Core.List.{[], _∷_, List}
 use lib.IntN.{ℤ}
 use lib.ListN.{getD}
 use mir.Syntax.{w32}
@@ -26,9 +26,10 @@ use Rattle.records.specs.declared.Sentence.{Sentence}
 use Rattle.records.specs.declared.Sentence.the-variants as S
 use Rattle.records.specs.declared.Vtg.{Vtg}
 use Rattle.records.specs.declared.Zda.{Zda}
-use Rattle.records.specs.declared.values.Date.{Date}
-use Rattle.records.specs.declared.values.Place.{Place}
-use Rattle.records.specs.Blank.{noMaybe, blankEntry}
+use Rattle.form_date.specs.declared.Date.{Date}
+use Rattle.form_position.specs.declared.Place.{Place}
+use Rattle.form.specs.Values.{noMaybe}
+use Rattle.records.specs.Blank.{blankEntry}
 use Rattle.slots.specs.Slots.{markOf, talkerNumber}
 
 -- A value that may be missing, and a signed one; each followed by the numbers after it.

@@ -1,22 +1,23 @@
 -- The numbers that a host was lent after it read a line, whole as they are, say the record of that line: the tests of the answer leave one way
 -- to a kind, and on it the numbers were laid.
 use Prim.Native.Nat.{ℕ}
-use mathlib.Core.Path.{_≡_, refl, sym, _∙_, ap}
-use mathlib.Core.Bool.{Bool, true, false, true≢false}
-use mathlib.Core.List.{List, [], _++_}
+use mathlib.Core.Path.{_∙_, _≡_, ap, refl, sym}
+use mathlib.Core.Bool.{Bool, false, true, true≢false}
+use mathlib.Core.List.{[], _++_, List}
 use lib.Dec.{eqb, leb}
-use lib.ListN.{length, drop}
+use lib.ListN.{drop, length}
 use Rattle.records.specs.declared.Gsa.{Gsa}
 use Rattle.records.specs.declared.Gsv.{Gsv}
 use Rattle.records.specs.declared.Reading.{Reading}
 use Rattle.records.specs.declared.Sentence.{Sentence}
 use Rattle.records.specs.declared.Sentence.the-variants as S
 use Rattle.reading.specs.Lines.{readLine, refusalOf}
-use Rattle.slots.specs.Slots.{pick, laid}
-use Rattle.tonumbers.specs.Layout.{numbersOf, sentenceNumbers, kindOf}
+use Rattle.digits.specs.Pick.{pick}
+use Rattle.slots.specs.Slots.{laid}
+use Rattle.tonumbers.specs.Layout.{kindOf, numbersOf, sentenceNumbers}
 use Rattle.tonumbers.proofs.Laying.{laid-none}
 use Rattle.fromnumbers.specs.Back.{recordAt}
-use Rattle.hostrecords.specs.ToHost.{told, toldOf, toldFor, laidFor}
+use Rattle.hostrecords.specs.ToHost.{laidFor, told, toldFor, toldOf}
 use Rattle.tripsnumbers.proofs.Lines.{Crosses, read-crosses}
 
 -- Without room nothing is laid.

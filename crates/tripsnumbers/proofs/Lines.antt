@@ -1,17 +1,17 @@
 -- What the line reader gives crosses to a host and back unchanged: each of its records is in range, so that its signed values fit 32 bits.
-use Prim.Native.Nat.{ℕ, _-_, _≤_, _<_}
+use Prim.Native.Nat.{_-_, _<_, _≤_, ℕ}
 use mathlib.Core.Path.{_≡_, refl}
-use mathlib.Core.Bool.{Bool, true, false}
-use mathlib.Core.List.{List, _++_}
+use mathlib.Core.Bool.{Bool, false, true}
+use mathlib.Core.List.{_++_, List}
 use native.Mathlib.Omega.{arith}
 use lib.Dec.{eqb, lit<}
-use lib.IntN.{ℤ, pos, negsuc, natAbs}
+use lib.IntN.{natAbs, negsuc, pos, ℤ}
 use lib.ListN.{length}
 use mir.Syntax.{w32}
 use mir.Val.{SFits}
-use Rattle.line.specs.Line.{lineRefusal, bodyOf}
+use Rattle.line.specs.Line.{bodyOf, lineRefusal}
 use Rattle.address.specs.declared.Address.{Address}
-use Rattle.address.specs.declared.Address.the-variants.{Standard, Maker, Unknown}
+use Rattle.address.specs.declared.Address.the-variants.{Maker, Standard, Unknown}
 use Rattle.address.specs.declared.Kind.{Kind}
 use Rattle.address.specs.declared.Kind.the-variants as K
 use Rattle.address.specs.declared.Pir.{Pir}
@@ -20,7 +20,7 @@ use Rattle.address.specs.declared.Talker.{Talker}
 use Rattle.address.specs.Address.{addressOf}
 use Rattle.fields.specs.Fields.{fieldsOf}
 use Rattle.fields.specs.Places.{theFields}
-use Rattle.forms.specs.Got.{pick}
+use Rattle.digits.specs.Pick.{pick}
 use Rattle.records.specs.declared.DatumAsked.{DatumAsked}
 use Rattle.records.specs.declared.DatumTold.{DatumTold}
 use Rattle.records.specs.declared.Gga.{Gga}
@@ -30,34 +30,29 @@ use Rattle.records.specs.declared.Rmc.{Rmc}
 use Rattle.records.specs.declared.Sentence.{Sentence}
 use Rattle.records.specs.declared.Sentence.the-variants as S
 use Rattle.records.specs.declared.Zda.{Zda}
-use Rattle.records.specs.declared.values.Place.{Place}
-use Rattle.records.specs.Blank.{blankGsa, blankGsv, aloneOf}
-use Rattle.reading.specs.Lines.{standardOf, makerOf, addressed, readBody, readLine}
-use Rattle.ranges.specs.Ranges.{signedWrong, placeWrong}
-use Rattle.writenav.specs.Gga.{ggaWrong}
-use Rattle.writenav.specs.Gll.{gllWrong}
-use Rattle.writenav.specs.Rmc.{rmcWrong}
-use Rattle.writenav.specs.Zda.{zdaWrong}
-use Rattle.writecom.specs.Pirta.{pirtaWrong}
-use Rattle.writecom.specs.Pirtr.{pirtrWrong}
-use Rattle.trips.proofs.Alike.{alike-parts}
-use Rattle.trips.proofs.Places.{signed-in, signed-none, first-zero}
-use Rattle.tripssat.proofs.Gsa as TGsa
-use Rattle.tonumbers.specs.Layout.{numbersOf, kindOf}
+use Rattle.form_position.specs.declared.Place.{Place}
+use Rattle.records.specs.Blank.{aloneOf, blankGsa, blankGsv}
+use Rattle.reading.specs.Lines.{addressed, makerOf, readBody, readLine, standardOf}
+use Rattle.form.specs.Values.{signedWrong}
+use Rattle.form_position.specs.Values.{placeWrong}
+use Rattle.kind_gga.specs.Row.{ggaRow, ggaWrong}
+use Rattle.kind_gll.specs.Row.{gllRow, gllWrong}
+use Rattle.kind_rmc.specs.Row.{rmcRow, rmcWrong}
+use Rattle.kind_zda.specs.Row.{zdaRow, zdaWrong}
+use Rattle.kind_pir_datum.specs.Reply.{pirtaRow, pirtaWrong}
+use Rattle.kind_pir_datum.specs.Command.{pirtrRow, pirtrWrong}
+use Rattle.form.proofs.Alike.{alike-parts}
+use Rattle.form.proofs.Signed.{first-zero, signed-in, signed-none}
+use Rattle.sentence_laws.proofs.Gsa as TGsa
+use Rattle.tonumbers.specs.Layout.{kindOf, numbersOf}
 use Rattle.fromnumbers.specs.Back.{recordAt}
-use Rattle.tripsnumbers.proofs.Records.{PlaceFits, GgaFits, RmcFits}
-use Rattle.tripsnumbers.proofs.Whole.{Held, back}
-use Rattle.tripsnav.proofs.Navigation as N
-use Rattle.tripscom.proofs.Commands as C
-use Rattle.rowlaws.proofs.Laws.{near-zero}
-use Rattle.row.specs.Kind.{faultBy}
-use Rattle.navigation.specs.Gga.{ggaRow}
-use Rattle.navigation.specs.Gll.{gllRow}
-use Rattle.navigation.specs.Rmc.{rmcRow}
-use Rattle.navigation.specs.Zda.{zdaRow}
-use Rattle.commands.specs.Pirtr.{pirtrRow}
-use Rattle.commands.specs.Pirta.{pirtaRow}
-use Rattle.tripssat.proofs.Gsv as TGsv
+use Rattle.tripsnumbers.proofs.Records.{GgaFits, PlaceFits, RmcFits}
+use Rattle.tripsnumbers.proofs.Whole.{back, Held}
+use Rattle.sentence_laws.proofs.Standard as N
+use Rattle.sentence_laws.proofs.Maker as C
+use Rattle.form.proofs.Laws.{near-zero}
+use Rattle.form.specs.Kind.{faultBy}
+use Rattle.sentence_laws.proofs.Gsv as TGsv
 
 -- A value of a size below 2^31 fits 32 bits.
 size-fits : (hi : ℕ) (z : ℤ) → hi < 2147483648 → natAbs z ≤ hi → SFits w32 z

@@ -2,12 +2,12 @@
 -- is there, and a signed value that fits 32 bits is again itself.
 use Prim.Native.Nat.{ℕ}
 use mathlib.Core.Path.{_≡_, refl}
-use mathlib.Core.Bool.{Bool, true, false}
-use mathlib.Core.List.{List, _++_}
+use mathlib.Core.Bool.{Bool, false, true}
+use mathlib.Core.List.{_++_, List}
 use lib.IntN.{ℤ}
-use lib.ListN.{length, getD}
+use lib.ListN.{getD, length}
 use mir.Syntax.{w32}
-use mir.Val.{SFits, toZ, ofZ}
+use mir.Val.{ofZ, SFits, toZ}
 use mir.Facts.{toZ-ofZ}
 use Rattle.address.specs.declared.Talker.{Talker}
 use Rattle.records.specs.declared.CodeTold.{CodeTold}
@@ -24,14 +24,15 @@ use Rattle.records.specs.declared.PortTold.{PortTold}
 use Rattle.records.specs.declared.Rmc.{Rmc}
 use Rattle.records.specs.declared.Vtg.{Vtg}
 use Rattle.records.specs.declared.Zda.{Zda}
-use Rattle.records.specs.declared.values.Place.{Place}
-use Rattle.records.specs.Blank.{noMaybe, blankEntry}
-use Rattle.slots.specs.Slots.{markOf, isThere}
-use Rattle.tonumbers.specs.Layout.{ggaNumbers, gllNumbers, gsaNumbers, gsvNumbers, rmcNumbers, vtgNumbers, zdaNumbers, pirprNumbers}
-use Rattle.tonumbers.specs.Layout.{pirtrNumbers, pirsrNumbers, pirpaNumbers, pirtaNumbers, pirsaNumbers, pireaNumbers}
-use Rattle.fromnumbers.specs.Back.{ggaAt, gllAt, gsaAt, gsvAt, rmcAt, vtgAt, zdaAt, pirprAt, pirtrAt, pirsrAt, pirpaAt, pirtaAt, pirsaAt}
-use Rattle.fromnumbers.specs.Back.{pireaAt}
-use Rattle.trips.proofs.Lists.{all-twelve, all-four}
+use Rattle.form_position.specs.declared.Place.{Place}
+use Rattle.form.specs.Values.{noMaybe}
+use Rattle.records.specs.Blank.{blankEntry}
+use Rattle.slots.specs.Slots.{isThere, markOf}
+use Rattle.tonumbers.specs.Layout.{ggaNumbers, gllNumbers, gsaNumbers, gsvNumbers, pireaNumbers, pirpaNumbers, pirprNumbers, pirsaNumbers}
+use Rattle.tonumbers.specs.Layout.{pirsrNumbers, pirtaNumbers, pirtrNumbers, rmcNumbers, vtgNumbers, zdaNumbers}
+use Rattle.fromnumbers.specs.Back.{ggaAt, gllAt, gsaAt, gsvAt, pireaAt, pirpaAt, pirprAt, pirsaAt, pirsrAt, pirtaAt, pirtrAt, rmcAt, vtgAt}
+use Rattle.fromnumbers.specs.Back.{zdaAt}
+use Rattle.form.proofs.Lists.{all-four, all-twelve}
 
 pub mark-back : (b : Bool) → isThere (markOf b) ≡ b
 mark-back true = refl

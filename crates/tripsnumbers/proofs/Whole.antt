@@ -1,12 +1,12 @@
 -- A record crosses to a host and back unchanged, whatever its kind: the kind's number and the count of its numbers lead back to its kind, the
 -- talker's number to its talker, and the numbers to the record.
-use Prim.Native.Nat.{ℕ, _≤_}
-use mathlib.Core.Path.{_≡_, refl, sym, _∙_, ap}
-use mathlib.Core.Bool.{Bool, true, false, _&&_}
-use mathlib.Core.List.{List, _++_}
+use Prim.Native.Nat.{_≤_, ℕ}
+use mathlib.Core.Path.{_∙_, _≡_, ap, refl, sym}
+use mathlib.Core.Bool.{_&&_, Bool, false, true}
+use mathlib.Core.List.{_++_, List}
 use native.Mathlib.Omega.{arith}
 use lib.Dec.{ltb}
-use lib.ListN.{length, getD}
+use lib.ListN.{getD, length}
 use mir.Syntax.{w32}
 use mir.Val.{SFits}
 use Rattle.address.specs.declared.Address.the-variants.{Maker, Unknown}
@@ -19,12 +19,14 @@ use Rattle.records.specs.declared.Gsv.{Gsv}
 use Rattle.records.specs.declared.Reading.{Reading}
 use Rattle.records.specs.declared.Sentence.{Sentence}
 use Rattle.records.specs.declared.Sentence.the-variants as S
-use Rattle.records.specs.Blank.{blankGsa, blankGsv, aloneOf}
-use Rattle.slots.specs.Slots.{pick, talkerNumber}
-use Rattle.tonumbers.specs.Layout.{numbersOf, kindOf, countOf}
-use Rattle.fromnumbers.specs.Back.{knownOf, addressAt, addressed, recordAt}
+use Rattle.records.specs.Blank.{aloneOf, blankGsa, blankGsv}
+use Rattle.digits.specs.Pick.{pick}
+use Rattle.slots.specs.Slots.{talkerNumber}
+use Rattle.tonumbers.specs.Layout.{countOf, kindOf, numbersOf}
+use Rattle.fromnumbers.specs.Back.{addressAt, addressed, knownOf, recordAt}
 use Rattle.fromnumbers.proofs.Numbered.{enough}
-use Rattle.tripsnumbers.proofs.Records.{PlaceFits, GgaFits, RmcFits, gga-back, gll-back, gsa-back, gsv-back, rmc-back, vtg-back, zda-back, pirpr-back, pirtr-back, pirsr-back, pirta-back}
+use Rattle.tripsnumbers.proofs.Records.{gga-back, GgaFits, gll-back, gsa-back, gsv-back, pirpr-back, pirsr-back, pirta-back}
+use Rattle.tripsnumbers.proofs.Records.{pirtr-back, PlaceFits, rmc-back, RmcFits, vtg-back, zda-back}
 
 -- What a record is as the library holds it: twelve satellites, four entries, and signed values of 32 bits; a refused line has none.
 unfoldable pub Held : Sentence → Gsa → Gsv → Type 0

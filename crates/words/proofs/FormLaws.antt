@@ -1,14 +1,14 @@
 -- Numbers passed over, counted from a place on; the bound of a value's marks; and the last digit of a mask behind those before it.
-use Prim.Native.Nat.{ℕ, zero, suc, _+_, _-_, _/_, _%_, _≤_, _<_}
-use mathlib.Core.Path.{_≡_, refl, sym, ap, _∙_}
-use mathlib.Core.List.{List, [], _∷_, _++_}
-use mathlib.Core.Bool.{Bool, true, false, cond}
+use Prim.Native.Nat.{_%_, _+_, _-_, _/_, _<_, _≤_, suc, zero, ℕ}
+use mathlib.Core.Path.{_∙_, _≡_, ap, refl, sym}
+use mathlib.Core.List.{[], _++_, _∷_, List}
+use mathlib.Core.Bool.{Bool, cond, false, true}
 use native.Mathlib.Omega.{arith}
 use lib.Dec.{ltb}
-use lib.ListN.{length, drop, drop-of-length-le}
+use lib.ListN.{drop, drop-of-length-le, length}
 use lib.Seq.{drop-drop, drop-length}
 use Rattle.digits.specs.Hex.{hexOf}
-use Rattle.masks.specs.Masks.{printHex}
+use Rattle.form_mask.specs.Masks.{printHex}
 use Rattle.put.specs.Wrote.{Held, Puts}
 use Rattle.put.proofs.Chain.{_⨾_, as-text, nothing-put}
 use Rattle.words.specs.Forms.{marksOf}

@@ -1,12 +1,12 @@
 -- Masks, and letters and digits with what they mean.
-use Prim.Native.Nat.{ℕ, _+_, _%_}
-use mathlib.Core.List.{List, [], _∷_, _++_}
+use Prim.Native.Nat.{_%_, _+_, ℕ}
+use mathlib.Core.List.{[], _++_, _∷_, List}
 use mathlib.Core.Bool.{cond}
 use lib.Dec.{eqb, ltb}
 use Rattle.digits.specs.Ascii.{ascii}
 use Rattle.digits.specs.Decimal.{findIn}
-use Rattle.forms.specs.Limits.{statuses, modes, selections}
-use Rattle.masks.specs.Masks.{printHex}
+use Rattle.form_letter.specs.Letters.{modes, selections, statuses}
+use Rattle.form_mask.specs.Masks.{printHex}
 use Rattle.phrases.specs.Phrases.{is}
 use Rattle.words.specs.Nth.{nth}
 

@@ -1,9 +1,9 @@
 // Masks, and letters and digits with what they mean.
-ghost use mathlib.Core.Path.{_≡_};
-ghost use Rattle.masks.specs.Masks.{printHex};
-ghost use Rattle.put.specs.Wrote.{held, Puts};
-ghost use Rattle.words.specs.Codes.{byteOf, meantWords, widthOf, codeText};
 use crate::nth;
+ghost use mathlib.Core.Path.{_≡_};
+ghost use Rattle.put.specs.Wrote.{held, Puts};
+ghost use Rattle.form_mask.specs.Masks.{printHex};
+ghost use Rattle.words.specs.Codes.{byteOf, codeText, meantWords, widthOf};
 
 // A digit or a letter of a record as it stands in a line.
 fn byte_of(v: u32) -> u8

@@ -1,14 +1,14 @@
 -- The elements before place i are put: what is left, put from there, is all of it put from the start.
-use Prim.Native.Nat.{_≤_, _-_}
-use mathlib.Core.Path.{_≡_, refl, _∙_}
+use Prim.Native.Nat.{_-_, _≤_}
+use mathlib.Core.Path.{_∙_, _≡_, refl}
 use native.Mathlib.Omega.{arith}
 use borrow.Author.Needs.{needs}
-use lib.ListN.{length, drop}
+use lib.ListN.{drop, length}
 use Rattle.put.specs.Wrote.{held, wrote}
-use Rattle.records.specs.Blank.{noMaybe}
+use Rattle.form.specs.Values.{noMaybe}
 use Rattle.text.specs.Values.{maybeNumbers}
 use Rattle.dump.specs.Record.{each}
-use Rattle.dump.proofs.Laws.{each-next, each-end, length-mapped}
+use Rattle.dump.proofs.Laws.{each-end, each-next, length-mapped}
 use Rattle.dump.proofs.put_satellites.Statement.{statement}
 use Rattle.dump.proofs.put_satellites.Tie as tie
 

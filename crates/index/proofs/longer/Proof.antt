@@ -1,17 +1,17 @@
 -- The gap in number is taken, and the rest behind it; or the bytes end, or are none.
-use mathlib.Core.Path.{_≡_, sym, ap, _∙_}
+use mathlib.Core.Path.{_∙_, _≡_, ap, sym}
 use native.Mathlib.Omega.{arith}
 use lib.ListN.{length}
-use Rattle.sevens.proofs.Taking.{taken, taken-short, taken-bad}
+use Rattle.index_sevens.proofs.Taking.{taken, taken-bad, taken-short}
 use Rattle.index.specs.Places.{nextAt}
-use Rattle.index.proofs.Parts.{gap-value, gap-short, gap-bad}
+use Rattle.index.proofs.Parts.{gap-bad, gap-short, gap-value}
 use borrow.Author.Needs.{needs}
 use Rattle.index.proofs.longer.Statement.{statement}
 use Rattle.index.proofs.longer.Tie as tie
 use Rattle.index.proofs.longer.Reads as reads
 use Rattle.index.proofs.longer.Lts as lts
 use Rattle.index.proofs.with_skip.Reads as with-skip-reads
-use Rattle.sevens.proofs.take.Reads as take-reads
+use Rattle.index_sevens.proofs.take.Reads as take-reads
 
 -- src/lib.rt:156:9
 take-requires : tie.Need-take-requires

@@ -8,7 +8,7 @@ use Rattle.index.proofs.put_longer.Tie as tie
 use Rattle.index.proofs.put_longer.Reads as reads
 use Rattle.index.proofs.put_longer.Lts as lts
 use Rattle.index.proofs.less.Reads as less-reads
-use Rattle.sevens.proofs.put.Reads as put-reads
+use Rattle.index_sevens.proofs.put.Reads as put-reads
 
 -- src/lib.rt:80:35
 less-requires : tie.Need-less-requires

@@ -1,7 +1,7 @@
 -- The lengths of the three numbers; each is at most five.
 use native.Mathlib.Omega.{arith}
 use lib.ListN.{length-append}
-use Rattle.sevens.proofs.Groups.{sevens-most}
+use Rattle.index_sevens.proofs.Groups.{sevens-most}
 use Rattle.index.specs.Index.{entryBytes}
 use Rattle.index.proofs.Ranges.{skip-is}
 use borrow.Author.Needs.{needs}
@@ -10,7 +10,7 @@ use Rattle.index.proofs.size.Tie as tie
 use Rattle.index.proofs.size.Reads as reads
 use Rattle.index.proofs.size.Lts as lts
 use Rattle.index.proofs.less.Reads as less-reads
-use Rattle.sevens.proofs.size.Reads as size-reads
+use Rattle.index_sevens.proofs.size.Reads as size-reads
 
 -- src/lib.rt:101:28
 less-requires : tie.Need-less-requires

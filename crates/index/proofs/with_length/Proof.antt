@@ -1,17 +1,17 @@
 -- The length is taken, and with it the entry is made; or the bytes end, or are none.
-use mathlib.Core.Path.{_≡_, sym, ap, _∙_}
+use mathlib.Core.Path.{_∙_, _≡_, ap, sym}
 use native.Mathlib.Omega.{arith}
 use lib.ListN.{length}
-use Rattle.sevens.proofs.Taking.{taken, taken-short, taken-bad}
+use Rattle.index_sevens.proofs.Taking.{taken, taken-bad, taken-short}
 use Rattle.index.specs.Places.{nextAt}
-use Rattle.index.proofs.Parts.{length-value, length-short, length-bad}
+use Rattle.index.proofs.Parts.{length-bad, length-short, length-value}
 use borrow.Author.Needs.{needs}
 use Rattle.index.proofs.with_length.Statement.{statement}
 use Rattle.index.proofs.with_length.Tie as tie
 use Rattle.index.proofs.with_length.Reads as reads
 use Rattle.index.proofs.with_length.Lts as lts
 use Rattle.index.proofs.made.Reads as made-reads
-use Rattle.sevens.proofs.take.Reads as take-reads
+use Rattle.index_sevens.proofs.take.Reads as take-reads
 
 -- src/lib.rt:131:9
 take-requires : tie.Need-take-requires

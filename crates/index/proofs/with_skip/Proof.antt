@@ -1,17 +1,17 @@
 -- The gap from the end of the line before is taken, and the length behind it; or the bytes end, or are none.
-use mathlib.Core.Path.{_≡_, sym, ap, _∙_}
+use mathlib.Core.Path.{_∙_, _≡_, ap, sym}
 use native.Mathlib.Omega.{arith}
 use lib.ListN.{length}
-use Rattle.sevens.proofs.Taking.{taken, taken-short, taken-bad}
+use Rattle.index_sevens.proofs.Taking.{taken, taken-bad, taken-short}
 use Rattle.index.specs.Places.{nextAt}
-use Rattle.index.proofs.Parts.{skip-value, skip-short, skip-bad}
+use Rattle.index.proofs.Parts.{skip-bad, skip-short, skip-value}
 use borrow.Author.Needs.{needs}
 use Rattle.index.proofs.with_skip.Statement.{statement}
 use Rattle.index.proofs.with_skip.Tie as tie
 use Rattle.index.proofs.with_skip.Reads as reads
 use Rattle.index.proofs.with_skip.Lts as lts
 use Rattle.index.proofs.with_length.Reads as with-length-reads
-use Rattle.sevens.proofs.take.Reads as take-reads
+use Rattle.index_sevens.proofs.take.Reads as take-reads
 
 -- src/lib.rt:144:9
 take-requires : tie.Need-take-requires

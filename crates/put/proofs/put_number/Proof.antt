@@ -1,6 +1,6 @@
 -- The whole part, then the thousandths.
 use Rattle.put.proofs.Chain.{_⨾_}
-use Rattle.forms.specs.Plain.{numberText}
+use Rattle.digits.specs.Plain.{numberText}
 use borrow.Author.Needs.{needs}
 use Rattle.put.proofs.put_number.Statement.{statement}
 use Rattle.put.proofs.put_number.Tie as tie

@@ -3,7 +3,7 @@ use borrow.Author.Needs.{needs}
 use Rattle.receiver.proofs.refuse.Statement.{statement}
 use Rattle.receiver.proofs.refuse.Tie as tie
 use mathlib.Core.Path.{ap}
-use Rattle.sealing.specs.declared.Written.{Written}
+use Rattle.frame.specs.declared.Written.{Written}
 
 returns : tie.Need-returns
 returns c = ap (λ (w : Written). record { written = w; settings = c .before .args .s }) (c .refuse .ensures)

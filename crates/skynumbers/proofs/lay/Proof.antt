@@ -1,11 +1,11 @@
 -- The places before place i are stored behind talker and count; the laws stand in Laying.
-use Prim.Native.Nat.{_+_, _-_, _*_, _≤_}
-use mathlib.Core.Path.{_≡_, _∙_}
+use Prim.Native.Nat.{_*_, _+_, _-_, _≤_}
+use mathlib.Core.Path.{_∙_, _≡_}
 use native.Mathlib.Omega.{arith}
 use borrow.Author.Needs.{needs}
 use lib.ListN.{length, length-set}
-use Rattle.writesky.proofs.Counts.{length-mapped}
-use Rattle.skynumbers.proofs.Laying.{Stored, stored-none, stored-long, stored-next, stored-all, laid-short, headed-long, laid-whole}
+use Rattle.sky_write.proofs.Counts.{length-mapped}
+use Rattle.skynumbers.proofs.Laying.{headed-long, laid-short, laid-whole, Stored, stored-all, stored-long, stored-next, stored-none}
 use Rattle.skynumbers.proofs.lay.Statement.{statement}
 use Rattle.skynumbers.proofs.lay.Tie as tie
 

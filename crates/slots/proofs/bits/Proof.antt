@@ -1,7 +1,7 @@
 -- A negative number is 2^32 less its magnitude; the others are their own bits.
 use native.Mathlib.Omega.{arith}
-use Rattle.ranges.proofs.Signs.{kept-plain}
-use Rattle.slots.proofs.Complement.{below, above}
+use Rattle.digits.proofs.Signs.{kept-plain}
+use Rattle.slots.proofs.Complement.{above, below}
 use borrow.Author.Needs.{needs}
 use Rattle.slots.proofs.bits.Statement.{statement}
 use Rattle.slots.proofs.bits.Tie as tie

@@ -1,9 +1,9 @@
 -- A whole sky has at most 36 satellites, so that its count is laid as it is; nobody's is refused.
-use mathlib.Core.Path.{_≡_, sym, _∙_}
+use mathlib.Core.Path.{_∙_, _≡_, sym}
 use lib.ListN.{length}
 use Rattle.sky.specs.Group.{groupOf}
-use Rattle.writesky.proofs.Counts.{length-mapped}
-use Rattle.host.proofs.Rooms.{room, no-room}
+use Rattle.sky_write.proofs.Counts.{length-mapped}
+use Rattle.host.proofs.Rooms.{no-room, room}
 use Rattle.host.proofs.Skies.{few, nobody, somebody}
 use borrow.Author.Needs.{needs}
 use Rattle.host.proofs.groups.castanwel_read_group.Statement.{statement}

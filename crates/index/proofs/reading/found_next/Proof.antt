@@ -1,12 +1,13 @@
 use mathlib.Core.Path.{_∙_}
-use Rattle.index.specs.Index.{pick}
--- The two tests of the definition.
+use Rattle.digits.specs.Pick.{pick}
 use borrow.Author.Needs.{needs}
 use Rattle.index.proofs.reading.found_next.Statement.{statement}
 use Rattle.index.proofs.reading.found_next.Tie as tie
 use Rattle.index.proofs.reading.found_next.Reads as reads
 use Rattle.index.proofs.reading.found_next.Lts as lts
 use Rattle.index.proofs.reading.finding.Reads as finding-reads
+
+-- The two tests of the definition.
 
 -- src/lib.rt:312:9
 finding-requires : tie.Need-finding-requires

@@ -1,10 +1,10 @@
 -- Whether the bytes are an index, whether the entry fits and whether there is room are known before the first byte is put.
-use mathlib.Core.Path.{_≡_, sym, ap, _∙_}
+use mathlib.Core.Path.{_∙_, _≡_, ap, sym}
 use native.Mathlib.Omega.{arith}
-use borrow.Author.Tests.{not-true, not-false}
+use borrow.Author.Tests.{not-false, not-true}
 use lib.ListN.{take}
 use Rattle.index.specs.Index.{readIndex}
-use Rattle.index.proofs.Answering.{scan-front, scan-none, scan-whole, add-over, add-none, add-unfit, add-full, add-all}
+use Rattle.index.proofs.Answering.{add-all, add-full, add-none, add-over, add-unfit, scan-front, scan-none, scan-whole}
 use borrow.Author.Needs.{needs}
 use Rattle.index.proofs.writing.add.Statement.{statement}
 use Rattle.index.proofs.writing.add.Tie as tie
@@ -15,7 +15,7 @@ use Rattle.index.proofs.put_longer.Reads as put-longer-reads
 use Rattle.index.proofs.reading.scan.Reads as scan-reads
 use Rattle.index.proofs.size.Reads as size-reads
 use Rattle.index.proofs.writing.wrote.Reads as wrote-reads
-use Rattle.sealing.proofs.refuse.Reads as refuse-reads
+use Rattle.frame.proofs.refuse.Reads as refuse-reads
 
 -- src/lib.rt:348:9
 refuse-requires : tie.Need-refuse-requires

@@ -1,22 +1,15 @@
 -- What is known of the entries before the place, and the rest, give what writing comes to.
 use Prim.Native.Nat.{_-_}
-use mathlib.Core.Path.{_≡_, sym, _∙_}
+use mathlib.Core.Path.{_∙_, _≡_, sym}
 use mathlib.Core.Bool.{true}
 use native.Mathlib.Omega.{arith}
 use lib.ListN.{length}
-use borrow.Author.Tests.{not-true, not-false}
+use borrow.Author.Tests.{not-false, not-true}
 use Rattle.index.specs.Index.{fits}
-use Rattle.index.specs.Places.{tip, Planning}
+use Rattle.index.specs.Places.{Planning, tip}
 use Rattle.index.proofs.Ranges.{fits-is}
-use Rattle.index.proofs.Planning.{
-  entry-most,
-  planning-start,
-  planning-next,
-  planned-unfit,
-  planned-threes,
-  planned-full,
-  planned-all,
-}
+use Rattle.index.proofs.Planning.{entry-most, planned-all, planned-full, planned-threes, planned-unfit, planning-next}
+use Rattle.index.proofs.Planning.{planning-start}
 use Rattle.index.proofs.writing.planned.Statement.{statement}
 use Rattle.index.proofs.writing.planned.Tie as tie
 use Rattle.index.proofs.writing.planned.Reads as reads
@@ -26,7 +19,7 @@ use Rattle.index.proofs.size.Reads as size-reads
 use Rattle.index.proofs.writing.plan.Reads as plan-reads
 use Rattle.index.proofs.writing.three.Reads as three-reads
 use Rattle.index.proofs.writing.wrote.Reads as wrote-reads
-use Rattle.sealing.proofs.refuse.Reads as refuse-reads
+use Rattle.frame.proofs.refuse.Reads as refuse-reads
 
 abbrev Inv-loop : tie.InvT-loop
 Inv-loop entries room reached₀ reached = Planning entries reached

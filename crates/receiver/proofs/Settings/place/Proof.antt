@@ -4,8 +4,8 @@ use Rattle.receiver.proofs.Settings.place.Statement.{statement}
 use Rattle.receiver.proofs.Settings.place.Tie as tie
 use mathlib.Core.Path.{_∙_, ap, subst}
 use Rattle.records.specs.declared.DatumTold.{DatumTold}
-use Rattle.sealing.specs.Written.{faultAt, Writes}
-use Rattle.writecom.specs.Pirta.{pirtaWrong, pirtaBody}
+use Rattle.frame.specs.Written.{faultAt, Writes}
+use Rattle.kind_pir_datum.specs.Reply.{pirtaBody, pirtaWrong}
 use Rattle.receiver.specs.Command.{afterDatum, datumTold, handedOver}
 use Rattle.receiver.proofs.DoesLaws.{does-reply}
 

@@ -5,10 +5,10 @@ use Rattle.receiver.proofs.Settings.port.Tie as tie
 use Prim.Native.Nat.{ℕ}
 use mathlib.Core.Path.{_∙_, ap, subst}
 use Rattle.records.specs.declared.PortTold.{PortTold}
-use Rattle.sealing.specs.Written.{faultAt, Writes}
-use Rattle.writecom.specs.Pirpa.{pirpaWrong, pirpaBody}
+use Rattle.frame.specs.Written.{faultAt, Writes}
+use Rattle.kind_pir_port.specs.Reply.{pirpaBody, pirpaWrong}
 use Rattle.receiver.specs.declared.Settings.{Settings}
-use Rattle.receiver.specs.Command.{namedPort, afterPort, portTold, handedOver}
+use Rattle.receiver.specs.Command.{afterPort, handedOver, namedPort, portTold}
 use Rattle.receiver.proofs.DoesLaws.{does-reply}
 
 returns : tie.Need-returns

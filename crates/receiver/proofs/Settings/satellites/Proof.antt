@@ -3,10 +3,10 @@ use borrow.Author.Needs.{needs}
 use Rattle.receiver.proofs.Settings.satellites.Statement.{statement}
 use Rattle.receiver.proofs.Settings.satellites.Tie as tie
 use mathlib.Core.Path.{_∙_, ap, subst}
-use Rattle.sealing.specs.Written.{faultAt, Writes}
+use Rattle.frame.specs.Written.{faultAt, Writes}
 use Rattle.receiver.specs.declared.Settings.{Settings}
-use Rattle.writecom.specs.Pirsa.{pirsaWrong, pirsaBody}
-use Rattle.receiver.specs.Command.{afterMasks, masksTold, handedOver}
+use Rattle.kind_pir_masks.specs.Reply.{pirsaBody, pirsaWrong}
+use Rattle.receiver.specs.Command.{afterMasks, handedOver, masksTold}
 use Rattle.receiver.proofs.DoesLaws.{does-reply}
 
 returns : tie.Need-returns

@@ -1,0 +1,7 @@
+pub mod Forms
+pub mod Got
+pub mod Kind
+pub mod Row
+pub mod Units
+pub mod Values
+pub mod Wrong

@@ -1,0 +1,9 @@
+pub mod Back
+pub mod CalendarLaws
+pub mod Laws
+pub mod MonthLaws
+pub mod PlaceDate
+pub mod PlaceZone
+pub mod Ranged
+pub mod Texts
+pub mod ZoneLaws

@@ -1,0 +1,5 @@
+pub mod Calendar
+pub mod Dates
+pub mod Forms
+pub mod Values
+pub mod Zone

@@ -1,0 +1,5 @@
+pub mod Back
+pub mod Finding
+pub mod Laws
+pub mod LetterLaws
+pub mod Place

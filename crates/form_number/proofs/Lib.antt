@@ -1,0 +1,10 @@
+pub mod Back
+pub mod FixedLaws
+pub mod Laws
+pub mod NumberLaws
+pub mod NumberSides
+pub mod Place
+pub mod Ranged
+pub mod Same
+pub mod Texts
+pub mod Written

@@ -1,0 +1,10 @@
+pub mod AngleLaws
+pub mod AngleSides
+pub mod Back
+pub mod Laws
+pub mod PlacePosition
+pub mod PlaceSides
+pub mod PositionSides
+pub mod Ranged
+pub mod Splitting
+pub mod Texts

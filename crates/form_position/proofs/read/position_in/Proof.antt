@@ -1,0 +1,11 @@
+-- `position_in` meets its contract: the form of the field that the places give.
+use mathlib.Core.Path.{_∙_}
+use borrow.Author.Needs.{needs}
+use Rattle.form_position.proofs.read.position_in.Statement.{statement}
+use Rattle.form_position.proofs.read.position_in.Tie as tie
+
+returns : tie.Need-returns
+returns c = c .position .ensures ∙ rw (c .before .field-in4 .ensures .holds, c .before .before .field-in3 .ensures .holds, c .before .before .before .field-in2 .ensures .holds, c .before .before .before .before .field-in .ensures .holds)
+
+pub position-in-spec : {M : Type 1} → statement M
+position-in-spec = tie.close (tie.spec (λ c κs. search needs) (λ c κs. search needs) (λ c κs. search needs) (λ c κs. search needs) (λ c κs. search needs) returns)

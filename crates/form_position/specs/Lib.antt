@@ -1,0 +1,3 @@
+pub mod Angle
+pub mod Forms
+pub mod Values

@@ -1,0 +1,11 @@
+-- `time_in` meets its contract: the form of the field that the places give.
+use mathlib.Core.Path.{_∙_}
+use borrow.Author.Needs.{needs}
+use Rattle.form_time.proofs.read.time_in.Statement.{statement}
+use Rattle.form_time.proofs.read.time_in.Tie as tie
+
+returns : tie.Need-returns
+returns c = c .time .ensures ∙ rw (c .before .field-in .ensures .holds)
+
+pub time-in-spec : {M : Type 1} → statement M
+time-in-spec = tie.close (tie.spec (λ c κs. search needs) (λ c κs. search needs) returns)

@@ -1,0 +1,11 @@
+-- Two digits, the point, two digits.
+use Rattle.put.proofs.Chain.{_⨾_}
+use borrow.Author.Needs.{needs}
+use Rattle.form_time.proofs.text.put_seconds.Statement.{statement}
+use Rattle.form_time.proofs.text.put_seconds.Tie as tie
+
+returns : tie.Need-returns
+returns c = c .before .before .before .before .before .before .before .before .before .before .put-two .ensures ⨾ (c .before .before .before .before .before .before .put .ensures ⨾ c .before .before .put-two2 .ensures)
+
+pub put-seconds-spec : {M : Type 1} → statement M
+put-seconds-spec = tie.close (tie.spec (λ c κs. search needs) (λ c κs. search needs) (λ c κs. search needs) (λ c. search needs) returns)

@@ -1,0 +1,3 @@
+// A time of day, in hundredths of a second.
+pub mod read;
+pub mod text;

@@ -1,9 +1,0 @@
-pub mod SignLaws
-pub mod RangeLaws
-pub mod LetterLaws
-pub mod FixedLaws
-pub mod NumberLaws
-pub mod AngleLaws
-pub mod NumberSides
-pub mod AngleSides
-pub mod PositionSides

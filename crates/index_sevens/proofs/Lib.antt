@@ -1,0 +1,4 @@
+pub mod Groups
+pub mod Steps
+pub mod Taking
+pub mod Turns

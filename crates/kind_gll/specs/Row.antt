@@ -1,0 +1,51 @@
+-- GLL (7): position (4), time, status, mode.
+use Prim.Native.Nat.{ℕ}
+use mathlib.Core.List.{List}
+use Rattle.address.specs.declared.Talker.{Talker}
+use Rattle.frame.specs.Body.{standardBody}
+use Rattle.form.specs.Kind.{answerBy, faultBy, fieldsFor, readBy}
+use Rattle.form.specs.Row.{_▷_, made, one, Row}
+use Rattle.form.specs.declared.Maybe.{Maybe}
+use Rattle.form.specs.declared.got.Got.{Got}
+use Rattle.form_letter.specs.Letters.{mode, status}
+use Rattle.form_time.specs.Time.{time}
+use Rattle.form_position.specs.Forms.{place}
+use Rattle.form_position.specs.declared.Place.{Place}
+use Rattle.form_position.specs.declared.Position.{Position}
+use Rattle.records.specs.declared.Gll.{Gll}
+use Rattle.records.specs.declared.Sentence.{Sentence}
+use Rattle.records.specs.declared.Sentence.the-variants as S
+
+abbrev pub Readings : Type 0
+Readings = Position × (Got × (Got × Got))
+
+abbrev pub Values : Type 0
+Values = Place × (Maybe × (ℕ × ℕ))
+
+abbrev pub gllParts : Row Readings Values
+gllParts = one place ▷ one time ▷ one status ▷ one mode
+
+unfoldable pub gllRow : Row Readings Gll
+gllRow =
+    made
+    (λ v. record { place = v .0; time = v .1 .0; status = v .1 .1 .0; mode = v .1 .1 .1 })
+    (λ r. (r .place, (r .time, (r .status, r .mode))))
+    gllParts
+
+-- What the contracts cite.
+abbrev pub gllFrom : Talker → Position → Got → Got → Got → Sentence
+gllFrom t place time status mode =
+    answerBy S.Refused gllRow (S.Gll t) (place, (time, (status, mode)))
+
+abbrev pub gllOf : Talker → ℕ → (ℕ → List ℕ) → Sentence
+gllOf t = readBy S.Refused gllRow (S.Gll t)
+
+-- The first value outside its range, by the number of its field, or 0; the fields; the body.
+abbrev pub gllWrong : Gll → ℕ
+gllWrong = faultBy gllRow
+
+abbrev pub gllFields : Gll → List (List ℕ)
+gllFields = fieldsFor gllRow
+
+abbrev pub gllBody : Talker → Gll → List ℕ
+gllBody t r = standardBody t "GLL" (gllFields r)

@@ -1,0 +1,5 @@
+pub mod EntryLaws
+pub mod Firsts
+pub mod GoodLaws
+pub mod Laws
+pub mod Places

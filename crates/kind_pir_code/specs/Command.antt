@@ -1,0 +1,36 @@
+-- PIRER (1): `0` only.
+use Prim.Native.Nat.{ℕ}
+use mathlib.Core.List.{List}
+use Rattle.digits.specs.Ascii.{ascii}
+use Rattle.frame.specs.Body.{makerBody}
+use Rattle.form.specs.Forms.{single}
+use Rattle.form.specs.Kind.{answerBy, fieldsFor, readBy}
+use Rattle.form.specs.Row.{Form, one, Row}
+use Rattle.form.specs.declared.got.Got.{Got}
+use Rattle.form_number.specs.Fixed.{exactForm}
+use Rattle.records.specs.declared.Sentence.{Sentence}
+use Rattle.records.specs.declared.Sentence.the-variants as S
+
+abbrev pub zeroDigit : Form Got (Unit {0})
+zeroDigit = single 2 (exactForm 1 0 0) (λ g. tt) (λ v. 0) (λ v. ascii "0")
+
+abbrev pub Readings : Type 0
+Readings = Got
+
+unfoldable pub pirerRow : Row Readings (Unit {0})
+pirerRow = one zeroDigit
+
+-- What the contracts cite.
+abbrev pub pirerFrom : Got → Sentence
+pirerFrom zero =
+    answerBy S.Refused pirerRow (λ v. S.Er) zero
+
+abbrev pub pirerOf : ℕ → (ℕ → List ℕ) → Sentence
+pirerOf = readBy S.Refused pirerRow (λ v. S.Er)
+
+-- The fields, and the body.
+abbrev pub pirerFields : List (List ℕ)
+pirerFields = fieldsFor pirerRow tt
+
+abbrev pub pirerBody : List ℕ
+pirerBody = makerBody "PIRER" pirerFields

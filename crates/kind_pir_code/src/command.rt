@@ -1,0 +1,53 @@
+// PIRER: a question for the self-test code.
+use form::got::Got;
+use frame::Written;
+use records::Sentence;
+ghost use mathlib.Core.Path.{_≡_};
+ghost use Rattle.put.specs.Wrote.{held, Puts};
+ghost use Rattle.fields.specs.Places.{fieldsBy};
+ghost use Rattle.frame.specs.Written.{faultAt, Writes};
+ghost use Rattle.kind_pir_code.specs.Command.{pirerBody, pirerFrom, pirerOf};
+
+// The record, or the first wrong field.
+fn pirer_from(zero: Got) -> Sentence
+    ensures { λ r. ⌜ r ≡ pirerFrom zero ⌝ }
+{
+    let w1 = form::keep::near(0, zero.wrong, 0);
+    if w1 != 0 {
+        return Sentence::Refused(5, w1);
+    }
+    Sentence::Er
+}
+
+// The record of the fields of a body `s`, `n` of them after the address, by their ends `p`. Refused: 4
+// where there are not so many as the kind has, 5 at the first wrong field.
+//
+//     $PIRER,0*40
+pub fn read(n: usize, s: &[u8], p: &[usize]) -> Sentence
+    ensures { λ r. ⌜ r ≡ pirerOf n (fieldsBy (now (p .entry)) (now (s .entry))) ⌝ }
+{
+    if n != 1 {
+        return Sentence::Refused(4, 0);
+    }
+    let zero = form_number::fixed::exact_in(s, p, 1, 1, 0, 0);
+    pirer_from(zero)
+}
+
+fn put_body(out: &mut [u8]) -> usize
+    ensures { λ n. ⌜ Puts (held 0 (now (out .entry))) pirerBody (held n (now (out .exit))) ⌝ }
+{
+    let a = put::put_bytes(out, 0, b"PIRER");
+    form_number::text::one(out, a, true, 0)
+}
+
+// Writes the line into `out`, and answers its length. Refused: 8 where `out` is shorter than the line.
+//
+//     $PIRER,0*40
+pub fn write(out: &mut [u8]) -> Written
+    ensures { λ w. ⌜ Writes (faultAt 0) pirerBody (now (out .entry)) w (now (out .exit)) ⌝ }
+{
+    let mut scratch = [0u8; 96];
+    let n = put_body(&mut scratch);
+    let fault = frame::fault(0);
+    frame::finish(out, &scratch, n, fault)
+}

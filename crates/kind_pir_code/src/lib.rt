@@ -1,0 +1,3 @@
+// The command PIRER and its reply PIREA.
+pub mod command;
+pub mod reply;

@@ -1,0 +1,3 @@
+// The command PIRTR and its reply PIRTA.
+pub mod command;
+pub mod reply;

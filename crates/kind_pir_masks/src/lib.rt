@@ -1,0 +1,3 @@
+// The command PIRSR and its reply PIRSA.
+pub mod command;
+pub mod reply;

@@ -1,3 +1,0 @@
-pub mod MaskLaws
-pub mod MaskText
-pub mod RateLaws

@@ -1,1 +1,0 @@
-// The place of a 5 in each kind of sentence: proofs only.

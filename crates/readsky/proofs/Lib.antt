@@ -1,6 +1,0 @@
-pub mod RepeatLaws
-pub mod SoundLaws
-pub mod StepLaws
-pub mod Placing
-pub mod Sizes
-pub mod LoopLaws

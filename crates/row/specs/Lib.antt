@@ -1,3 +1,0 @@
-pub mod Row
-pub mod Forms
-pub mod Kind

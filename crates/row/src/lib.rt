@@ -1,1 +1,0 @@
-// The forms of fields and the rows of sentences: definitions only.

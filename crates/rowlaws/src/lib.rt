@@ -1,1 +1,0 @@
-// The laws of forms and rows, for every kind of sentence: proofs only.

@@ -1,2 +1,0 @@
-pub mod Active
-pub mod View

@@ -1,0 +1,15 @@
+pub mod Addresses
+pub mod Back
+pub mod Five
+pub mod FiveLines
+pub mod FiveMaker
+pub mod FiveSatellites
+pub mod FiveStandard
+pub mod Gsa
+pub mod Gsv
+pub mod GsvSame
+pub mod KindLaws
+pub mod Known
+pub mod Maker
+pub mod Standard
+pub mod Trips

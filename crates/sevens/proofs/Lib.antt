@@ -1,4 +1,0 @@
-pub mod Groups
-pub mod Turns
-pub mod Taking
-pub mod Steps

@@ -1,2 +1,0 @@
-pub mod Sevens
-pub mod Places

@@ -1,1 +1,0 @@
-// Round trips, value by value: proofs only.

@@ -1,1 +1,0 @@
-// Round trips of the maker's sentences: proofs only.

@@ -1,1 +1,0 @@
-// Round trips of GGA, GLL, RMC, VTG and ZDA: proofs only.

@@ -1,3 +1,0 @@
-pub mod Gsa
-pub mod Gsv
-pub mod GsvSame

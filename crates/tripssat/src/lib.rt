@@ -1,1 +1,0 @@
-// Round trips of GSA and GSV: proofs only.

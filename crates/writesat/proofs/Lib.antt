@@ -1,2 +1,0 @@
-pub mod EntryLaws
-pub mod GoodLaws

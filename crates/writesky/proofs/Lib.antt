@@ -1,6 +1,0 @@
-pub mod Counts
-pub mod LineLaws
-pub mod RoomLaws
-pub mod PutLaws
-pub mod FaultLaws
-pub mod SizeLaws

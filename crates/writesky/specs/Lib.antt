@@ -1,3 +1,0 @@
-pub mod Looks
-pub mod Size
-pub mod Ready
