@@ -40,7 +40,8 @@ module _ (a : List ℕ) (n : commaFree a ≡ true → ⊥) where
   by-kind : (t : Talker) → talkerOf (take 2 a) ≡ some t → (k : Option Kind) → kindOf (drop 2 a) ≡ k → standard t k ≡ Unknown
   by-kind t e (some k) f =
       absurd (n (ap commaFree (sym (take-append-drop 2 a))
-      ∙ free-join (take 2 a) (drop 2 a) (found-passes commaFree (take 2 a) talkers t talkers-free e) (found-passes commaFree (drop 2 a) kinds k kinds-free f)))
+      ∙ free-join (take 2 a) (drop 2 a) (found-passes commaFree (take 2 a) talkers t talkers-free e)
+      (found-passes commaFree (drop 2 a) kinds k kinds-free f)))
   by-kind t e none f = refl
 
   by-maker : (p : Option Pir) → pirOf a ≡ p → maker p ≡ Unknown

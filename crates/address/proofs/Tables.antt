@@ -27,11 +27,13 @@ rows test [] = true
 rows test (n ∷ ns) = test (n .bytes) && rows test ns
 
 -- What is found passes a test that all rows pass.
-pub found-passes : {A : Type 0} (test : List ℕ → Bool) (a : List ℕ) (ns : List (Named A)) (v : A) → rows test ns ≡ true → lookUp a ns ≡ some v → test a ≡ true
+pub found-passes : {A : Type 0} (test : List ℕ → Bool) (a : List ℕ) (ns : List (Named A)) (v : A) → rows test ns ≡ true
+    → lookUp a ns ≡ some v → test a ≡ true
 unfolding lookUp
 found-passes test a [] v r e = let z : _≡_ {A = ℕ} 0 1 = cc in let w : ⊥ = omega arith in absurd w
 found-passes test a (n ∷ ns) v r e = go (same a (n .bytes)) refl e (found-passes test a ns v (and-right (test (n .bytes)) _ r))
   where
-    go : (t : Bool) → same a (n .bytes) ≡ t → pick t (some (n .thing)) (lookUp a ns) ≡ some v → (lookUp a ns ≡ some v → test a ≡ true) → test a ≡ true
+    go : (t : Bool) → same a (n .bytes) ≡ t → pick t (some (n .thing)) (lookUp a ns) ≡ some v → (lookUp a ns ≡ some v → test a ≡ true)
+        → test a ≡ true
     go true i e ih = ap test (same-true a (n .bytes) i) ∙ and-left _ _ r
     go false i e ih = ih e

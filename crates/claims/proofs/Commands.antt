@@ -1,4 +1,5 @@
--- Commands from the contract of the step. Only an answer without a refusal changes a setting, and then the reply was written: so its values,
+-- Commands from the contract of the step. Only an answer without a refusal changes a setting, and then the reply was written: so its
+-- values,
 -- which are those after the command, are in range, and it reads back as the record of them.
 use Prim.Native.Nat.{suc, zero, ℕ}
 use mathlib.Core.Path.{_∙_, _≡_, ap, refl, sym}
@@ -55,13 +56,17 @@ pick-same : {A : Type 0} (b : Bool) (x : A) → pick b x x ≡ x
 pick-same true x = refl
 pick-same false x = refl
 
-replied : (s after : Settings) (fault : Written) (body : List ℕ) (room : ℕ) → after ≡ s → settingsAfter s (replies after fault body) room ≡ s
-replied s after fault body room e = ap (λ (x : Settings). pick (eqb (writtenOf fault body room .no) 0) x s) e ∙ pick-same (eqb (writtenOf fault body room .no) 0) s
+replied : (s after : Settings) (fault : Written) (body : List ℕ) (room : ℕ) → after ≡ s
+    → settingsAfter s (replies after fault body) room ≡ s
+replied s after fault body room e = ap (λ (x : Settings). pick (eqb (writtenOf fault body room .no) 0) x s) e
+    ∙ pick-same (eqb (writtenOf fault body room .no) 0) s
 
-pub port-question : (s : Settings) (p : ℕ) (r : PortAsked) (room : ℕ) → r .rate .there ≡ false → settingsAfter s (sentenceOutcome s p (S.Pr r)) room ≡ s
+pub port-question : (s : Settings) (p : ℕ) (r : PortAsked) (room : ℕ) → r .rate .there ≡ false
+    → settingsAfter s (sentenceOutcome s p (S.Pr r)) room ≡ s
 port-question s p r room e = replied s (afterPort s p r) _ _ room (ap (λ (b : Bool). pick b (withPort s (namedPort p r) (portAsked r)) s) e)
 
-pub datum-question : (s : Settings) (p : ℕ) (r : DatumAsked) (room : ℕ) → r .datum .there ≡ false → settingsAfter s (sentenceOutcome s p (S.Tr r)) room ≡ s
+pub datum-question : (s : Settings) (p : ℕ) (r : DatumAsked) (room : ℕ) → r .datum .there ≡ false
+    → settingsAfter s (sentenceOutcome s p (S.Tr r)) room ≡ s
 datum-question s p r room e = replied s (afterDatum s r) _ _ room (rw e)
 
 pub masks-question : (s : Settings) (p : ℕ) (r : MasksAsked) (room : ℕ) → r .gps .there ≡ false → r .glonass .there ≡ false
@@ -95,8 +100,11 @@ same-with (suc n) s p = record { other = suc-other; datum = refl; zone = refl; g
     suc-other zero h = refl
     suc-other (suc m) h = absurd (h (ne-eqb (suc m) 0 (λ z. omega arith) ∙ sym (ne-eqb (suc n) 0 (λ z. omega arith))))
 
-pub only-the-named-port : (s : Settings) (p : ℕ) (r : PortAsked) (room : ℕ) → SameButPort (namedPort p r) s (settingsAfter s (sentenceOutcome s p (S.Pr r)) room)
-only-the-named-port s p r room = go (eqb (writtenOf (faultAt (pirpaWrong (portTold (afterPort s p r) (namedPort p r)))) (pirpaBody (portTold (afterPort s p r) (namedPort p r))) room .no) 0) (r .rate .there)
+pub only-the-named-port : (s : Settings) (p : ℕ) (r : PortAsked) (room : ℕ)
+    → SameButPort (namedPort p r) s (settingsAfter s (sentenceOutcome s p (S.Pr r)) room)
+only-the-named-port s p r room = go
+    (eqb (writtenOf (faultAt (pirpaWrong (portTold (afterPort s p r) (namedPort p r))))
+    (pirpaBody (portTold (afterPort s p r) (namedPort p r))) room .no) 0) (r .rate .there)
   where
     go : (b there : Bool) → SameButPort (namedPort p r) s (pick b (pick there (withPort s (namedPort p r) (portAsked r)) s) s)
     go true true = same-with (namedPort p r) s (portAsked r)
@@ -104,7 +112,8 @@ only-the-named-port s p r room = go (eqb (writtenOf (faultAt (pirpaWrong (portTo
     go false there = same-all (namedPort p r) s
 
 -- The number of satellites that each mask allows is the ones of its bits.
-pub counts-are-ones : (s : Settings) (c : Counts) → c ≡ countsOf s → settingsGood s ≡ true → (c .no ≡ 0) × ((c .gps ≡ ones (s .gps)) × (c .glonass ≡ ones (s .glonass)))
+pub counts-are-ones : (s : Settings) (c : Counts) → c ≡ countsOf s → settingsGood s ≡ true → (c .no ≡ 0)
+    × ((c .gps ≡ ones (s .gps)) × (c .glonass ≡ ones (s .glonass)))
 unfolding countsOf
 counts-are-ones s c e g =
     let f : c ≡ record { no = 0; line = 0; field = 0; gps = ones (s .gps); glonass = ones (s .glonass) } = e ∙ rw g in

@@ -43,7 +43,12 @@ pub record SamePart (r s : RefT (List ℕ)) : Type 0 where
   pub bytes : now r ≡ now s
 
 part : (l : RefT (List ℕ)) (at : ℕ) (bytes : List ℕ) (r s : RefT (List ℕ)) → PartAt l at bytes r → PartAt l at bytes s → SamePart r s
-part l at bytes r s p q = record { block = equation (p .block) (q .block); place = equation (p .place) (q .place); bytes = equation (p .holds) (q .holds) }
+part l at bytes r s p q = record {
+  block = equation (p .block) (q .block);
+  place = equation (p .place) (q .place);
+  bytes = equation
+      (p .holds) (q .holds);
+}
 
 -- Two answers of one meaning, a number or none.
 abbrev num-of : Option ℕ → Num

@@ -1,4 +1,5 @@
--- The numbers that cross to a host, and the functions that it calls: any two results that a contract permits are equal, in the answer, in each
+-- The numbers that cross to a host, and the functions that it calls: any two results that a contract permits are equal, in the answer, in
+-- each
 -- number that is set and in each lent slice.
 use Prim.Native.Nat.{ℕ}
 use mathlib.Core.List.{List}
@@ -11,7 +12,9 @@ use mir.Val.{ofZ, toZ}
 use Rattle.slots.specs.Slots.{markOf, isThere, laid, talkerNumber, talkerOf}
 use Rattle.address.specs.declared.Talker.{Talker}
 use Rattle.records.specs.declared.Gga.{Gga}
-use Rattle.tonumbers.specs.Layout.{ggaNumbers, gllNumbers, gsaNumbers, gsvNumbers, rmcNumbers, vtgNumbers, zdaNumbers, pirprNumbers, pirtrNumbers, pirsrNumbers, pirpaNumbers, pirtaNumbers, pirsaNumbers, pireaNumbers, numbersOf, kindOf, countOf}
+use Rattle.tonumbers.specs.Layout.{ggaNumbers, gllNumbers, gsaNumbers, gsvNumbers, rmcNumbers, vtgNumbers, zdaNumbers, pirprNumbers}
+use Rattle.tonumbers.specs.Layout.{pirtrNumbers, pirsrNumbers, pirpaNumbers, pirtaNumbers, pirsaNumbers, pireaNumbers, numbersOf, kindOf}
+use Rattle.tonumbers.specs.Layout.{countOf}
 use Rattle.records.specs.declared.Gll.{Gll}
 use Rattle.records.specs.declared.Gsa.{Gsa}
 use Rattle.records.specs.declared.Gsv.{Gsv}
@@ -27,7 +30,8 @@ use Rattle.records.specs.declared.MasksTold.{MasksTold}
 use Rattle.records.specs.declared.CodeTold.{CodeTold}
 use Rattle.records.specs.declared.Reading.{Reading}
 use Rattle.records.specs.declared.Sentence.{Sentence}
-use Rattle.fromnumbers.specs.Back.{ggaAt, gllAt, gsaAt, gsvAt, rmcAt, vtgAt, zdaAt, pirprAt, pirtrAt, pirsrAt, pirpaAt, pirtaAt, pirsaAt, pireaAt, addressAt}
+use Rattle.fromnumbers.specs.Back.{ggaAt, gllAt, gsaAt, gsvAt, rmcAt, vtgAt, zdaAt, pirprAt, pirtrAt, pirsrAt, pirpaAt, pirtaAt, pirsaAt}
+use Rattle.fromnumbers.specs.Back.{pireaAt, addressAt}
 use Rattle.fromnumbers.specs.Values.{maybeAt, numberAt, knotsAt, kmhAt, signedAt, zoneAt, placeAt, dateAt, entryAt}
 use Rattle.sky.specs.declared.Table.{Table}
 use Rattle.skynumbers.specs.Numbers.{skyNumbers, tableAt}
@@ -218,7 +222,8 @@ pub host-record : (line : List ℕ) (numbers : List ℕ)
 host-record line numbers = (one, one)
 
 pub host-read-numbers : (line : List ℕ) (numbers : List ℕ)
-    → One (toldFor (readLine line) numbers .no) × One (toldFor (readLine line) numbers .kind) × One (toldFor (readLine line) numbers .field) × One (laidFor (readLine line) numbers)
+    → One (toldFor (readLine line) numbers .no) × One (toldFor (readLine line) numbers .kind)
+    × One (toldFor (readLine line) numbers .field) × One (laidFor (readLine line) numbers)
 host-read-numbers line numbers = (one, one, one, one)
 
 pub host-line : (kind : ℕ) (numbers : List ℕ) (out : List ℕ)
@@ -226,15 +231,18 @@ pub host-line : (kind : ℕ) (numbers : List ℕ) (out : List ℕ)
 host-line kind numbers out = (one, one)
 
 pub host-write : (kind : ℕ) (numbers : List ℕ) (out : List ℕ)
-    → One (writtenAs kind numbers out .no) × One (writtenAs kind numbers out .length) × One (writtenAs kind numbers out .line) × One (writtenAs kind numbers out .field) × One (leftAs kind numbers out)
+    → One (writtenAs kind numbers out .no) × One (writtenAs kind numbers out .length) × One (writtenAs kind numbers out .line)
+    × One (writtenAs kind numbers out .field) × One (leftAs kind numbers out)
 host-write kind numbers out = (one, one, one, one, one)
 
 pub host-read-group : (s : List ℕ) (numbers : List ℕ)
-    → One (handed (groupOf s) numbers .no) × One (handed (groupOf s) numbers .line) × One (handed (groupOf s) numbers .field) × One (handed (groupOf s) numbers .numbers)
+    → One (handed (groupOf s) numbers .no) × One (handed (groupOf s) numbers .line) × One (handed (groupOf s) numbers .field)
+    × One (handed (groupOf s) numbers .numbers)
 host-read-group s numbers = (one, one, one, one)
 
 pub host-write-group : (numbers : List ℕ) (out : List ℕ)
-    → One (groupPut numbers out .answer .no) × One (groupPut numbers out .answer .length) × One (groupPut numbers out .answer .line) × One (groupPut numbers out .answer .field) × One (groupPut numbers out .out)
+    → One (groupPut numbers out .answer .no) × One (groupPut numbers out .answer .length) × One (groupPut numbers out .answer .line)
+    × One (groupPut numbers out .answer .field) × One (groupPut numbers out .out)
 host-write-group numbers out = (one, one, one, one, one)
 
 pub host-start : (settings : List ℕ)
@@ -242,7 +250,9 @@ pub host-start : (settings : List ℕ)
 host-start settings = (one, one)
 
 pub host-step : (settings : List ℕ) (arrival : ℕ) (line : List ℕ) (out : List ℕ)
-    → One (stepped settings arrival line out .answer .no) × One (stepped settings arrival line out .answer .length) × One (stepped settings arrival line out .answer .line) × One (stepped settings arrival line out .answer .field) × One (stepped settings arrival line out .numbers) × One (stepped settings arrival line out .out)
+    → One (stepped settings arrival line out .answer .no) × One (stepped settings arrival line out .answer .length)
+    × One (stepped settings arrival line out .answer .line) × One (stepped settings arrival line out .answer .field)
+    × One (stepped settings arrival line out .numbers) × One (stepped settings arrival line out .out)
 host-step settings arrival line out = (one, one, one, one, one, one)
 
 pub host-counts : (settings : List ℕ)

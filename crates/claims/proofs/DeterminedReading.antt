@@ -201,7 +201,8 @@ fixed-in s p k w lo hi = one
 pub exact-in : (s : List ℕ) (p : List ℕ) (k : ℕ) (w : ℕ) (lo : ℕ) (hi : ℕ) → One (exactForm w lo hi (fieldIn p k s))
 exact-in s p k w lo hi = one
 
-pub position-in : (s : List ℕ) (p : List ℕ) (k1 : ℕ) (k2 : ℕ) (k3 : ℕ) (k4 : ℕ) → One (positionForm (fieldIn p k1 s) (fieldIn p k2 s) (fieldIn p k3 s) (fieldIn p k4 s))
+pub position-in : (s : List ℕ) (p : List ℕ) (k1 : ℕ) (k2 : ℕ) (k3 : ℕ) (k4 : ℕ)
+    → One (positionForm (fieldIn p k1 s) (fieldIn p k2 s) (fieldIn p k3 s) (fieldIn p k4 s))
 position-in s p k1 k2 k3 k4 = one
 
 pub variation-in : (s : List ℕ) (p : List ℕ) (k1 : ℕ) (k2 : ℕ) → One (variationForm (fieldIn p k1 s) (fieldIn p k2 s))

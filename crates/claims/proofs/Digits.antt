@@ -47,7 +47,8 @@ within zero n h = go (ltb n 10) refl
     go false e = let z : ⊥ = omega (arith, ltb-false n 10 e, h) in absurd z
 within (suc w) n h = go (ltb n 10) refl (within w (n / 10) (omega (arith, h, pow-suc 10 (suc w))))
   where
-    go : (t : Bool) → ltb n 10 ≡ t → Fewest (n / 10) (digitsWithin (suc w) (n / 10)) → Fewest n (cond t [] (digitsWithin (suc w) (n / 10)) ++ ((48 + n % 10) ∷ []))
+    go : (t : Bool) → ltb n 10 ≡ t → Fewest (n / 10) (digitsWithin (suc w) (n / 10))
+        → Fewest n (cond t [] (digitsWithin (suc w) (n / 10)) ++ ((48 + n % 10) ∷ []))
     go true e f = one-place n (ltb-true n 10 e)
     go false e f = one-more n (digitsWithin (suc w) (n / 10)) (ltb-false n 10 e) f
 

@@ -90,7 +90,8 @@ pub position-empty : positionForm [] [] [] [] ≡ record { wrong = 0; there = fa
 position-empty = PositionSides.position-empty
 
 -- The magnetic variation: a number below 180 and its letter.
-pub variation-is : (f u : List ℕ) → variationForm f u .wrong ≡ 0 → variationForm f u .there ≡ true → PositionSides.Varied f u (variationForm f u .value)
+pub variation-is : (f u : List ℕ) → variationForm f u .wrong ≡ 0 → variationForm f u .there ≡ true
+    → PositionSides.Varied f u (variationForm f u .value)
 variation-is = PositionSides.variation-is
 
 pub variation-reads : {f u : List ℕ} {z : ℤ} → PositionSides.Varied f u z → variationForm f u ≡ gotIntOf (some z)

@@ -26,7 +26,8 @@ use Rattle.sky_laws.proofs.WriteRead as WriteRead
 module _ {t : Talker} {r : Table} {out : List ℕ} {answer : Written} {left : List ℕ} (w : WritesGroup t r out answer left) where
   pub group-refusal-leaves : (answer .no ≡ 0 → ⊥) → left ≡ out
   unfolding leftGroup
-  group-refusal-leaves h = w .leaves ∙ rw (ne-eqb (writtenGroup t r (length out) .no) 0 (λ z. h (ap (λ (a : Written). a .no) (w .answers) ∙ z)))
+  group-refusal-leaves h = w .leaves
+      ∙ rw (ne-eqb (writtenGroup t r (length out) .no) 0 (λ z. h (ap (λ (a : Written). a .no) (w .answers) ∙ z)))
 
   module _ (h : answer .no ≡ 0) where
     none : writtenGroup t r (length out) .no ≡ 0
@@ -57,7 +58,8 @@ module _ {t : Talker} {r : Table} {out : List ℕ} {answer : Written} {left : Li
     group-left = w .leaves ∙ rw (eq-eqb (writtenGroup t r (length out) .no) 0 none)
 
     pub group-written : take (answer .length) left ≡ groupText t r
-    group-written = ap (take (answer .length)) group-left ∙ take-at (groupText t r) (drop (length (groupText t r)) out) (answer .length) (sym group-length)
+    group-written = ap (take (answer .length)) group-left ∙ take-at (groupText t r) (drop (length (groupText t r)) out) (answer .length)
+        (sym group-length)
 
     -- The bytes past what was written stay.
     pub group-rest-stays : drop (answer .length) left ≡ drop (answer .length) out
@@ -79,7 +81,12 @@ group-same-bytes g t es e {out} {answer} {left} room w =
     let same = WriteRead.same-bytes g t es e in
     let good = WriteRead.write-read g t es e .1 in
     let long = ap length same in
-    let said : answer ≡ wrote (length (groupText t (tableOf es))) = w .answers ∙ rw (eq-eqb (tableFault (tableOf es) .no) 0 good, le-ltb (length out) (length (groupText t (tableOf es))) (omega (arith, room, long))) in
+    let said : answer ≡ wrote (length (groupText t (tableOf es))) = w .answers
+    ∙ rw (
+      eq-eqb (tableFault (tableOf es) .no) 0 good,
+      le-ltb (length out) (length (groupText t (tableOf es)))
+          (omega (arith, room, long)),
+    ) in
     let n = ap (λ (a : Written). a .no) said in (
       said ∙ ap wrote long,
       ap (λ (k : ℕ). take k left) (sym long ∙ sym (group-length w n)) ∙ group-written w n ∙ same,
@@ -89,11 +96,13 @@ group-same-bytes g t es e {out} {answer} {left} room w =
 pub read-group : (s : List ℕ) (a b : Sky) → a ≡ skyOf (Group.groupOf s) → b ≡ skyOf (Group.groupOf s) → a ≡ b
 read-group s a b p q = p ∙ sym q
 
-pub write-group : (t : Talker) (r : Table) (out : List ℕ) (a b : Written) (l m : List ℕ) → WritesGroup t r out a l → WritesGroup t r out b m → (a ≡ b) × (l ≡ m)
+pub write-group : (t : Talker) (r : Table) (out : List ℕ) (a b : Written) (l m : List ℕ) → WritesGroup t r out a l
+    → WritesGroup t r out b m → (a ≡ b) × (l ≡ m)
 write-group t r out a b l m v w = (v .answers ∙ sym (w .answers), v .leaves ∙ sym (w .leaves))
 
 pub table-fault : (r : Table) (a b : Written) → a ≡ tableFault r → b ≡ tableFault r → a ≡ b
 table-fault r a b p q = p ∙ sym q
 
-pub table-rest : (r : Table) (a b : Bool) → a ≡ allBlank (drop (r .count) (r .entries)) → b ≡ allBlank (drop (r .count) (r .entries)) → a ≡ b
+pub table-rest : (r : Table) (a b : Bool) → a ≡ allBlank (drop (r .count) (r .entries)) → b ≡ allBlank (drop (r .count) (r .entries))
+    → a ≡ b
 table-rest r a b p q = p ∙ sym q

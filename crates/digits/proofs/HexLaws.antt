@@ -32,7 +32,12 @@ pub hex-is : (n : ℕ) → n < 16 → hexDigit (hexOf n) ≡ true
 unfolding hexDigit
 hex-is n h =
     ⊎-elim (λ p. rw (p .1) (simp (le-leb 48 (n + 48) (omega arith), le-leb (n + 48) 57 (omega arith))))
-    (λ p. rw (p .1) (simp (le-leb 48 (n + 55) (omega arith), lt-leb (n + 55) 57 (omega arith), le-leb 65 (n + 55) (omega arith), le-leb (n + 55) 70 (omega arith)))) (hex-cases n)
+    (λ p. rw (p .1) (simp (
+      le-leb 48 (n + 55) (omega arith),
+      lt-leb (n + 55) 57 (omega arith),
+      le-leb 65 (n + 55) (omega arith),
+      le-leb (n + 55) 70 (omega arith),
+    ))) (hex-cases n)
 
 -- A digit is 0-9 or A-F.
 pub hex-either : (b : ℕ) → hexDigit b ≡ true → ((48 ≤ b) × (b ≤ 57)) ⊎ ((65 ≤ b) × (b ≤ 70))

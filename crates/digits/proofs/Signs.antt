@@ -44,7 +44,8 @@ module _ (z : ℤ) (f : SFits w32 z) where
   outer = rw (inner, +ℤ-idl) (toZ-ofZ (neg-fits z f))
 
   pub negated-plain : ltZ (toZ w32 (ofZ w32 z)) (pos 0) ≡ true
-      → T (nonNeg (toZ w64 (ofZ w64 (pos 0 -ℤ toZ w64 (ofZ w64 (toZ w32 (ofZ w32 z))))))) × Fits w32 (natAbs (toZ w64 (ofZ w64 (pos 0 -ℤ toZ w64 (ofZ w64 (toZ w32 (ofZ w32 z)))))))
+      → T (nonNeg (toZ w64 (ofZ w64 (pos 0 -ℤ toZ w64 (ofZ w64 (toZ w32 (ofZ w32 z)))))))
+      × Fits w32 (natAbs (toZ w64 (ofZ w64 (pos 0 -ℤ toZ w64 (ofZ w64 (toZ w32 (ofZ w32 z)))))))
   negated-plain e = rw outer (neg-plain z f (rw (toZ-ofZ f) at e))
 
   pub negated-size : natAbs (toZ w64 (ofZ w64 (pos 0 -ℤ toZ w64 (ofZ w64 (toZ w32 (ofZ w32 z)))))) ≡ natAbs z

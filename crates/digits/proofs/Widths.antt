@@ -34,6 +34,7 @@ width-is n h = one (ltb n 10) refl
     two true e k = record { some = lit≤ tt; most = lit≤ tt; fits = ltb-true n 100 e; needs = λ _. k }
     two false e k = three (ltb n 1000) refl (ltb-false n 100 e)
 
-    one : (t : Bool) → ltb n 10 ≡ t → Wide n (cond t 1 (cond (ltb n 100) 2 (cond (ltb n 1000) 3 (cond (ltb n 10000) 4 (cond (ltb n 100000) 5 6)))))
+    one : (t : Bool) → ltb n 10 ≡ t
+        → Wide n (cond t 1 (cond (ltb n 100) 2 (cond (ltb n 1000) 3 (cond (ltb n 10000) 4 (cond (ltb n 100000) 5 6)))))
     one true e = record { some = lit≤ tt; most = lit≤ tt; fits = ltb-true n 10 e; needs = λ i. let z : ⊥ = omega arith in absurd z }
     one false e = two (ltb n 100) refl (ltb-false n 10 e)

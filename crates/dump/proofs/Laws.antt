@@ -12,7 +12,8 @@ use Rattle.records.specs.declared.Sentence.{Sentence}
 use Rattle.dump.specs.Record.{each, sentenceNumbers, recordNumbers}
 
 module _ {A : Type 0} (numbers : A → List ℕ) (l : List A) (i : ℕ) where
-  pub each-next : (d : A) {h k : Held} → i < length l → Puts h (numbers (getD l i d)) k → wrote k (each numbers (drop (i + 1) l)) ≡ wrote h (each numbers (drop i l))
+  pub each-next : (d : A) {h k : Held} → i < length l → Puts h (numbers (getD l i d)) k
+      → wrote k (each numbers (drop (i + 1) l)) ≡ wrote h (each numbers (drop i l))
   unfolding each
   each-next d {h} {k} b p = rw (p .is, drop-cons l i d b, add-one i, wrote-append h (numbers (getD l i d)) _)
 
@@ -25,5 +26,6 @@ pub length-mapped : (A B : Type 0) (f : A → B) (l : List A) (n : ℕ) → leng
 length-mapped A B f l n e = sym (length-map l f) ∙ e
 
 -- The numbers of a reading are those of its sentence.
-pub of-kind : {h k : Held} (reading : Reading) {s : Sentence} → reading .sentence ≡ s → Puts h (sentenceNumbers s (reading .gsa) (reading .gsv)) k → Puts h (recordNumbers reading) k
+pub of-kind : {h k : Held} (reading : Reading) {s : Sentence} → reading .sentence ≡ s
+    → Puts h (sentenceNumbers s (reading .gsa) (reading .gsv)) k → Puts h (recordNumbers reading) k
 of-kind reading e p = as-text (ap (λ (x : Sentence). sentenceNumbers x (reading .gsa) (reading .gsv)) (sym e)) p

@@ -26,7 +26,8 @@ use Rattle.text.specs.Values.{zoneNumbers}
 
 -- The fix of a GGA, and its heights, age and station.
 abbrev pub fixNumbers : Gga → List ℕ
-fixNumbers r = maybeNumbers (r .time) ++ placeNumbers (r .place) ++ valueText (r .quality) ++ maybeNumbers (r .satellites) ++ thousandthNumbers (r .hdop)
+fixNumbers r = maybeNumbers (r .time) ++ placeNumbers (r .place) ++ valueText (r .quality) ++ maybeNumbers (r .satellites)
+    ++ thousandthNumbers (r .hdop)
 
 abbrev pub heightNumbers : Gga → List ℕ
 heightNumbers r = signedNumbers (r .altitude) ++ signedNumbers (r .geoid) ++ thousandthNumbers (r .age) ++ maybeNumbers (r .station)
@@ -44,7 +45,8 @@ rmcNumbers r =
 
 abbrev pub vtgNumbers : Vtg → List ℕ
 vtgNumbers r =
-    thousandthNumbers (r .course) ++ thousandthNumbers (r .magnetic) ++ knotsNumbers (r .knots) ++ kmhNumbers (r .kmh) ++ valueText (r .mode)
+    thousandthNumbers (r .course) ++ thousandthNumbers (r .magnetic) ++ knotsNumbers (r .knots) ++ kmhNumbers (r .kmh)
+    ++ valueText (r .mode)
 
 abbrev pub zdaNumbers : Zda → List ℕ
 zdaNumbers r = maybeNumbers (r .time) ++ dateNumbers (r .date) ++ zoneNumbers (r .zone)
@@ -90,7 +92,8 @@ abbrev pub entriesNumbers : List Entry → List ℕ
 entriesNumbers es = each entryNumbers es
 
 abbrev pub gsvNumbers : Gsv → List ℕ
-gsvNumbers r = valueText (r .lines) ++ valueText (r .line) ++ valueText (r .satellites) ++ valueText (r .count) ++ entriesNumbers (r .entries)
+gsvNumbers r = valueText (r .lines) ++ valueText (r .line) ++ valueText (r .satellites) ++ valueText (r .count)
+    ++ entriesNumbers (r .entries)
 
 -- The record of a sentence that was read; of a refused one there are no numbers.
 abbrev pub sentenceNumbers : Sentence → Gsa → Gsv → List ℕ

@@ -18,7 +18,10 @@ use records::Sentence;
 use records::Vtg;
 use records::Zda;
 ghost use Rattle.put.specs.Wrote.{held, Puts};
-ghost use Rattle.dump.specs.Record.{codeToldNumbers, datumAskedNumbers, datumToldNumbers, entriesNumbers, entryNumbers, fixNumbers, ggaNumbers, gllNumbers, gsaNumbers, gsvNumbers, heightNumbers, masksAskedNumbers, masksToldNumbers, portAskedNumbers, portToldNumbers, recordNumbers, rmcNumbers, satelliteNumbers, vtgNumbers, zdaNumbers};
+ghost use Rattle.dump.specs.Record.{codeToldNumbers, datumAskedNumbers, datumToldNumbers, entriesNumbers, entryNumbers, fixNumbers};
+ghost use Rattle.dump.specs.Record.{ggaNumbers, gllNumbers, gsaNumbers, gsvNumbers, heightNumbers, masksAskedNumbers};
+ghost use Rattle.dump.specs.Record.{masksToldNumbers, portAskedNumbers, portToldNumbers, recordNumbers, rmcNumbers, satelliteNumbers};
+ghost use Rattle.dump.specs.Record.{vtgNumbers, zdaNumbers};
 
 fn put_fix(out: &mut [u8], at: usize, r: Gga) -> usize
     ensures { λ n. ⌜ Puts (held at (now (out .entry))) (fixNumbers r) (held n (now (out .exit))) ⌝ }

@@ -3,7 +3,8 @@ ghost use Prim.Native.Nat.{_+_, _≤_};
 ghost use mathlib.Core.Path.{_≡_};
 ghost use lib.ListN.{drop, length};
 ghost use Rattle.digits.specs.Decimal.{digitsFrom};
-ghost use Rattle.exhibits_lists.specs.Lists.{askedOf, blanks, bodyLength, bodyOf, followsOf, isBlank, isPadded, number, numberOf, pairOf, rowOf, upTo, width};
+ghost use Rattle.exhibits_lists.specs.Lists.{askedOf, blanks, bodyLength, bodyOf, followsOf, isBlank, isPadded, number, numberOf};
+ghost use Rattle.exhibits_lists.specs.Lists.{pairOf, rowOf, upTo, width};
 
 // A number that was read, or bytes that are none.
 pub enum Parsed {

@@ -46,7 +46,8 @@ module _ (s : List ℕ) (n : ℕ) (room : length (fieldsOf s) ≤ n) where
 
       go : (t : Bool) → ltb k n ≡ t → [] ≡ fieldIn ends k s
       go true e =
-          not-past ends k s (omega (arith, length-ends, ltb-true k n e)) (omega (arith, z)) (λ q. omega (arith, some s)) (omega (arith, z)) .1
+          not-past ends k s (omega (arith, length-ends, ltb-true k n e)) (omega (arith, z)) (λ q. omega (arith, some s))
+          (omega (arith, z)) .1
       go false e = no-place ends k s (omega (arith, length-ends, ltb-false k n e)) .1
 
   each : (k : ℕ) → fieldsBy ends s k ≡ theFields s k

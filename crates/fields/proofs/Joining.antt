@@ -55,6 +55,7 @@ unfolding fieldsOf joinFields
 join-fields [] = refl
 join-fields (b ∷ s) = go (eqb b 44) refl (join-fields s) (first-field s)
   where
-    go : (t : Bool) → eqb b 44 ≡ t → joinAll (fieldsOf s) ≡ s → First (fieldsOf s) → joinAll (cond t ([] ∷ fieldsOf s) (onto b (fieldsOf s))) ≡ b ∷ s
+    go : (t : Bool) → eqb b 44 ≡ t → joinAll (fieldsOf s) ≡ s → First (fieldsOf s)
+        → joinAll (cond t ([] ∷ fieldsOf s) (onto b (fieldsOf s))) ≡ b ∷ s
     go true i ih r = join-empty (fieldsOf s) r ∙ rw (ih, eqb-true b 44 i)
     go false i ih r = join-onto b (fieldsOf s) r ∙ ap (λ (x : List ℕ). b ∷ x) ih

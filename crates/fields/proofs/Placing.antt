@@ -147,11 +147,22 @@ module _ (p : List ℕ) (k : ℕ) (s : List ℕ) where
       module _ (z : k ≡ 0 → ⊥) where
         pub not-past : getD p k 0 ≤ getD p (k - 1) 0 → (0 ≡ placeIn p k s) × ([] ≡ fieldIn p k s)
         unfolding isIn
-        not-past o = no-part (rw (lt-ltb k (length p) h, le-leb (getD p k 0) (length s) l, later-start z, lt-leb (getD p (k - 1) 0 + 1) (getD p k 0) (omega arith)))
+        not-past o = no-part (rw (
+          lt-ltb k (length p) h,
+          le-leb (getD p k 0) (length s) l,
+          later-start z,
+          lt-leb (getD p (k - 1) 0 + 1) (getD p k 0) (omega arith),
+        ))
 
         pub later-part : getD p (k - 1) 0 < getD p k 0
-            → (getD p (k - 1) 0 + 1 ≡ placeIn p k s) × (take (getD p k 0 - (getD p (k - 1) 0 + 1)) (drop (getD p (k - 1) 0 + 1) s) ≡ fieldIn p k s)
+            → (getD p (k - 1) 0 + 1 ≡ placeIn p k s)
+            × (take (getD p k 0 - (getD p (k - 1) 0 + 1)) (drop (getD p (k - 1) 0 + 1) s) ≡ fieldIn p k s)
         unfolding isIn
         later-part o =
-            let r = a-part (rw (lt-ltb k (length p) h, le-leb (getD p k 0) (length s) l, later-start z, le-leb (getD p (k - 1) 0 + 1) (getD p k 0) (omega arith))) in
+            let r = a-part (rw (
+              lt-ltb k (length p) h,
+              le-leb (getD p k 0) (length s) l,
+              later-start z,
+              le-leb (getD p (k - 1) 0 + 1) (getD p k 0) (omega arith),
+            )) in
             (rw (later-start z) at (r .0), rw (later-start z) at (r .1))

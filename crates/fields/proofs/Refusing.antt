@@ -76,7 +76,8 @@ module _ (l : List ℕ) (n : ℕ) where
 
       -- by the ends that were stored in 80 places
       pub placed : (p : List ℕ) → length p ≡ 80 → n < length (fieldsOf (bodyOf l))
-          → Comes l n 0 (placeIn (sets p 0 (endsFrom 0 (bodyOf l))) n (bodyOf l) + 1) (fieldIn (sets p 0 (endsFrom 0 (bodyOf l))) n (bodyOf l))
+          → Comes l n 0 (placeIn (sets p 0 (endsFrom 0 (bodyOf l))) n (bodyOf l) + 1)
+          (fieldIn (sets p 0 (endsFrom 0 (bodyOf l))) n (bodyOf l))
       placed p r h =
           let m = fields-most (bodyOf l) in
           let b = accepted l (address-line l a) .0 .room in

@@ -39,7 +39,8 @@ unfolding fieldsOf onto
 fields-most [] = omega arith
 fields-most (b ∷ s) = go (eqb b 44) (fields-most s) (first-field s)
   where
-    go : (t : Bool) → length (fieldsOf s) ≤ length s + 1 → First (fieldsOf s) → length (cond t ([] ∷ fieldsOf s) (onto b (fieldsOf s))) ≤ length (b ∷ s) + 1
+    go : (t : Bool) → length (fieldsOf s) ≤ length s + 1 → First (fieldsOf s)
+        → length (cond t ([] ∷ fieldsOf s) (onto b (fieldsOf s))) ≤ length (b ∷ s) + 1
     go true e r = omega arith
     go false e r = rw (r .2) (omega (arith, rw (r .2) at e))
 
@@ -59,13 +60,21 @@ past-comma : (i : ℕ) (es : List ℕ) (fs : List (List ℕ)) (b : ℕ) (s : Lis
     → k < suc (length fs) → FieldAt i (i ∷ es) ([] ∷ fs) (b ∷ s) k
 unfolding startOf
 past-comma i es fs b s zero ih h = record { end = omega arith; bytes = refl; inside = omega arith }
-past-comma i es fs b s (suc k) ih h = let r = ih k (omega arith) in record { end = omega (arith, r .end); bytes = rw (one-more (startOf k fs)) (r .bytes); inside = omega (arith, r .inside) }
+past-comma i es fs b s (suc k) ih h = let r =
+    ih k (omega arith) in record {
+      end = omega (arith, r .end);
+      bytes = rw (one-more (startOf k fs)) (r .bytes);
+      inside = omega
+          (arith, r .inside);
+    }
 
 past-other : (i : ℕ) (es : List ℕ) (f : List ℕ) (fs : List (List ℕ)) (b : ℕ) (s : List ℕ) (k : ℕ) → FieldAt (i + 1) es (f ∷ fs) s k
     → FieldAt i es ((b ∷ f) ∷ fs) (b ∷ s) k
 unfolding startOf
-past-other i es f fs b s zero r = record { end = omega (arith, r .end); bytes = ap (λ (t : List ℕ). b ∷ t) (r .bytes); inside = omega (arith, r .inside) }
-past-other i es f fs b s (suc k) r = record { end = omega (arith, r .end); bytes = rw (one-first (length f) (startOf k fs)) (r .bytes); inside = omega (arith, r .inside) }
+past-other i es f fs b s zero r =
+    record { end = omega (arith, r .end); bytes = ap (λ (t : List ℕ). b ∷ t) (r .bytes); inside = omega (arith, r .inside) }
+past-other i es f fs b s (suc k) r =
+    record { end = omega (arith, r .end); bytes = rw (one-first (length f) (startOf k fs)) (r .bytes); inside = omega (arith, r .inside) }
 
 pub field-at : (i : ℕ) (s : List ℕ) (k : ℕ) → k < length (fieldsOf s) → FieldAt i (endsFrom i s) (fieldsOf s) s k
 unfolding endsFrom fieldsOf onto startOf

@@ -113,7 +113,8 @@ given-cases h b = go (eqb b 10) refl (open-is h)
               no-lf = o .no-lf;
               lf = eqb-true b 10 l;
               short = omega arith;
-              line = ap (λ (o : List ℕ). givenOf o b) (o .line) ∙ simp (l, k, le-leb 1 (suc (length (o .inner))) (omega arith)) (rw (eqb-true b 10 l));
+              line = ap (λ (o : List ℕ). givenOf o b) (o .line)
+                  ∙ simp (l, k, le-leb 1 (suc (length (o .inner))) (omega arith)) (rw (eqb-true b 10 l));
             })
 
 -- Whatever is given out has that form, and its last byte is LF.
@@ -131,7 +132,8 @@ given-last h b = go (given-cases h b)
     go (inr g) =
         let t : h ++ b ∷ [] ≡ g .past ++ given h b = cc (append-assoc (g .past) (36 ∷ g .inner) (b ∷ [])) in
         let n : length h + 1 ≡ length (g .past) + length (given h b) = simp length-append at (ap length t) in
-        sym (ap (drop (length h + 1 - length (given h b))) t ∙ drop-at (g .past) (given h b) (length h + 1 - length (given h b)) (omega arith))
+        sym (ap (drop (length h + 1 - length (given h b))) t ∙ drop-at (g .past) (given h b) (length h + 1 - length (given h b))
+        (omega arith))
 
 -- Where no `$` came after the previous LF, nothing is given out.
 pub gives-none : (h : List ℕ) → openLine h ≡ [] → given h 10 ≡ []

@@ -91,6 +91,7 @@ found-ind P e l m n i [] = e n i
 found-ind P e l m n i (b ∷ s) = go (leb 1 (endsHere n b)) refl (found-ind P e l m (heldNext n b) (i + 1) s)
   where
     go : (t : Bool) → leb 1 (endsHere n b) ≡ t → P (heldNext n b) (i + 1) s (foundFrom (heldNext n b) (i + 1) s)
-        → P n i (b ∷ s) (pickFound t (record { line = true; start = i + 1 - endsHere n b; end = i + 1 }) (foundFrom (heldNext n b) (i + 1) s))
+        → P n i (b ∷ s) (pickFound t (record { line = true; start = i + 1 - endsHere n b; end = i + 1 })
+        (foundFrom (heldNext n b) (i + 1) s))
     go true k x = l n i b s (leb-true 1 (endsHere n b) k)
     go false k x = m n i b s (foundFrom (heldNext n b) (i + 1) s) (leb-false 1 (endsHere n b) k) x

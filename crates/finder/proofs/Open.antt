@@ -45,14 +45,16 @@ after-snoc x (c ∷ h) b = rw (has-snoc x h b, after-snoc x h b) (go (eqb b x) (
     go false false true = refl
     go false false false = refl
 
-from-snoc : (x : ℕ) (h : List ℕ) (b : ℕ) → fromLast x (h ++ b ∷ []) ≡ cond (eqb b x) (b ∷ []) (cond (leb 1 (length (fromLast x h))) (fromLast x h ++ b ∷ []) [])
+from-snoc : (x : ℕ) (h : List ℕ) (b : ℕ)
+    → fromLast x (h ++ b ∷ []) ≡ cond (eqb b x) (b ∷ []) (cond (leb 1 (length (fromLast x h))) (fromLast x h ++ b ∷ []) [])
 unfolding fromLast has
 from-snoc x [] b = refl
 from-snoc x (c ∷ h) b = rw (has-snoc x h b, from-snoc x h b) (go (eqb b x) (has x h) (eqb c x))
   where
     go : (t u v : Bool)
         → cond (t || u) (cond t (b ∷ []) (cond (leb 1 (length (fromLast x h))) (fromLast x h ++ b ∷ []) [])) (cond v (c ∷ h ++ b ∷ []) [])
-        ≡ cond t (b ∷ []) (cond (leb 1 (length (cond u (fromLast x h) (cond v (c ∷ h) [])))) (cond u (fromLast x h) (cond v (c ∷ h) []) ++ b ∷ []) [])
+        ≡ cond t (b ∷ []) (cond (leb 1 (length (cond u (fromLast x h) (cond v (c ∷ h) []))))
+        (cond u (fromLast x h) (cond v (c ∷ h) []) ++ b ∷ []) [])
     go true u v = refl
     go false true v = refl
     go false false true = simp (le-leb 1 (suc (length h)) (omega arith))
@@ -67,7 +69,8 @@ unfolding openLine fromLast
 open-snoc h b = rw (after-snoc 10 h b) (go (eqb b 10) refl (eqb b 36) refl)
   where
     go : (t : Bool) → eqb b 10 ≡ t → (u : Bool) → eqb b 36 ≡ u
-        → fromLast 36 (cond t [] (afterLast 10 h ++ b ∷ [])) ≡ cond u (36 ∷ []) (cond t [] (cond (leb 1 (length (openLine h))) (openLine h ++ b ∷ []) []))
+        → fromLast 36 (cond t [] (afterLast 10 h ++ b ∷ [])) ≡ cond u (36 ∷ [])
+        (cond t [] (cond (leb 1 (length (openLine h))) (openLine h ++ b ∷ []) []))
     go true e true f = let p = eqb-true b 10 e in let q = eqb-true b 36 f in let z : ⊥ = omega arith in absurd z
     go true e false f = refl
     go false e true f = from-snoc 36 (afterLast 10 h) b ∙ simp f (rw (eqb-true b 36 f))
@@ -89,7 +92,8 @@ open-more h o (b ∷ m) e k d l =
     let p = neither (eqb b 36) (has 36 m) d in
     let q = neither (eqb b 10) (has 10 m) l in
     let n : openLine (h ++ b ∷ []) ≡ o ++ b ∷ [] = open-snoc h b ∙ rw e (simp (p .0, q .0, le-leb 1 (length o) k)) in
-    rw (append-assoc h (b ∷ []) m, append-assoc o (b ∷ []) m) at (open-more (h ++ b ∷ []) (o ++ b ∷ []) m n (simp length-append (omega arith)) (p .1) (q .1))
+    rw (append-assoc h (b ∷ []) m, append-assoc o (b ∷ []) m) at
+    (open-more (h ++ b ∷ []) (o ++ b ∷ []) m n (simp length-append (omega arith)) (p .1) (q .1))
 
 -- An unfinished line starts with a `$` and has no `$` and no LF behind it: it is the end of the bytes fed.
 pub record OpenBy (h : List ℕ) : Type 0 where
@@ -107,15 +111,25 @@ open-is = snoc-ind (λ h. (openLine h ≡ []) ⊎ OpenBy h) (inl refl) next
     next : (h : List ℕ) (b : ℕ) → (openLine h ≡ []) ⊎ OpenBy h → (openLine (h ++ b ∷ []) ≡ []) ⊎ OpenBy (h ++ b ∷ [])
     next h b w = go (eqb b 36) refl (eqb b 10) refl w
       where
-        go : (t : Bool) → eqb b 36 ≡ t → (u : Bool) → eqb b 10 ≡ u → (openLine h ≡ []) ⊎ OpenBy h → (openLine (h ++ b ∷ []) ≡ []) ⊎ OpenBy (h ++ b ∷ [])
-        go true d u l w = inr (record { past = h; inner = []; bytes = rw (eqb-true b 36 d); line = open-snoc h b ∙ simp d; no-dollar = refl; no-lf = refl })
+        go : (t : Bool) → eqb b 36 ≡ t → (u : Bool) → eqb b 10 ≡ u → (openLine h ≡ []) ⊎ OpenBy h
+            → (openLine (h ++ b ∷ []) ≡ []) ⊎ OpenBy (h ++ b ∷ [])
+        go true d u l w = inr (record {
+          past = h;
+          inner = [];
+          bytes = rw (eqb-true b 36 d);
+          line = open-snoc h b
+              ∙ simp d;
+          no-dollar = refl;
+          no-lf = refl;
+        })
         go false d true l w = inl (open-snoc h b ∙ simp (d, l))
         go false d false l (inl e) = inl (open-snoc h b ∙ simp (d, l, e))
         go false d false l (inr o) = inr (record {
           past = o .past;
           inner = o .inner ++ b ∷ [];
           bytes = rw (o .bytes, append-assoc);
-          line = open-snoc h b ∙ ap (λ (l : List ℕ). openNext l b) (o .line) ∙ simp (d, l, le-leb 1 (suc (length (o .inner))) (omega arith));
+          line = open-snoc h b ∙ ap (λ (l : List ℕ). openNext l b) (o .line)
+              ∙ simp (d, l, le-leb 1 (suc (length (o .inner))) (omega arith));
           no-dollar = has-snoc 36 (o .inner) b ∙ simp (d, o .no-dollar);
           no-lf = has-snoc 10 (o .inner) b ∙ simp (l, o .no-lf);
         })

@@ -1,4 +1,5 @@
--- The slice finder finds the same lines as the byte finder: it folds the same step, and lines to come depend on the past by its unfinished line alone.
+-- The slice finder finds the same lines as the byte finder: it folds the same step, and lines to come depend on the past by its unfinished
+-- line alone.
 use Prim.Native.Nat.{ℕ, _+_, _-_, _≤_, _<_}
 use mathlib.Core.Path.{_≡_, refl, sym, _∙_, ap}
 use mathlib.Core.List.{List, [], _∷_, _++_, append-assoc, append-nil}
@@ -43,7 +44,8 @@ same-open p q (b ∷ t) e = rw (e, same-open (p ++ b ∷ []) (q ++ b ∷ []) t (
 pub too-long : (p q t : List ℕ) → 81 < length (openLine p) → openLine q ≡ [] → givenAll p t ≡ givenAll q t
 unfolding givenAll given
 too-long p q [] h e = refl
-too-long p q (b ∷ t) h e = simp (lt-leb (length (openLine p) + 1) 82 (omega arith), e, and-false) (next (eqb b 36) refl (eqb b 10) refl (too-long (p ++ b ∷ []) (q ++ b ∷ []) t))
+too-long p q (b ∷ t) h e = simp (lt-leb (length (openLine p) + 1) 82 (omega arith), e, and-false)
+    (next (eqb b 36) refl (eqb b 10) refl (too-long (p ++ b ∷ []) (q ++ b ∷ []) t))
   where
     next : (u : Bool) → eqb b 36 ≡ u → (v : Bool) → eqb b 10 ≡ v
         → (81 < length (openLine (p ++ b ∷ [])) → openLine (q ++ b ∷ []) ≡ [] → givenAll (p ++ b ∷ []) t ≡ givenAll (q ++ b ∷ []) t)
@@ -51,7 +53,8 @@ too-long p q (b ∷ t) h e = simp (lt-leb (length (openLine p) + 1) 82 (omega ar
     next true d v l ih = same-open (p ++ b ∷ []) (q ++ b ∷ []) t (rw (open-snoc p b, open-snoc q b) (simp d))
     next false d true l ih = same-open (p ++ b ∷ []) (q ++ b ∷ []) t (rw (open-snoc p b, open-snoc q b) (simp (d, l)))
     next false d false l ih =
-        ih (rw (open-snoc p b) (simp (d, l, le-leb 1 (length (openLine p)) (omega arith), length-append) (omega arith))) (rw (open-snoc q b) (simp (d, l, e)))
+        ih (rw (open-snoc p b) (simp (d, l, le-leb 1 (length (openLine p)) (omega arith), length-append) (omega arith)))
+        (rw (open-snoc q b) (simp (d, l, e)))
 
 -- The lines of bytes and of more bytes after them.
 pub all-append : (p q t : List ℕ) → givenAll p (q ++ t) ≡ givenAll p q ++ givenAll (p ++ q) t
@@ -75,20 +78,25 @@ no-lf-none p (b ∷ m) l = let n = neither (eqb b 10) (has 10 m) l in simp (n .0
 none-from : (n i : ℕ) (t p : List ℕ) → heldAfter 0 p ≡ n → foundFrom n i t .line ≡ false → givenAll p t ≡ []
 unfolding givenAll
 none-from =
-    found-ind (λ n i t r. (p : List ℕ) → heldAfter 0 p ≡ n → r .line ≡ false → givenAll p t ≡ []) (λ n i p e f. refl) (λ n i b t k p e f. absurd (true≢false f))
+    found-ind (λ n i t r. (p : List ℕ) → heldAfter 0 p ≡ n → r .line ≡ false → givenAll p t ≡ []) (λ n i p e f. refl)
+    (λ n i b t k p e f. absurd (true≢false f))
     (λ n i b t r k x p e f. all-none p b t (given-none p b (rw e k)) ∙ x (p ++ b ∷ []) (held-snoc 0 p b ∙ rw e) f)
 
 -- Where none is found, the bytes held begin at start, and end is the end.
-none-ends : (n i : ℕ) (t : List ℕ) → foundFrom n i t .line ≡ false → (foundFrom n i t .start ≡ i + length t - heldAfter n t) × (foundFrom n i t .end ≡ i + length t)
+none-ends : (n i : ℕ) (t : List ℕ) → foundFrom n i t .line ≡ false → (foundFrom n i t .start ≡ i + length t - heldAfter n t)
+    × (foundFrom n i t .end ≡ i + length t)
 unfolding heldAfter
 none-ends =
-    found-ind (λ n i t r. r .line ≡ false → (r .start ≡ i + length t - heldAfter n t) × (r .end ≡ i + length t)) (λ n i f. (omega arith, omega arith))
+    found-ind (λ n i t r. r .line ≡ false → (r .start ≡ i + length t - heldAfter n t) × (r .end ≡ i + length t))
+    (λ n i f. (omega arith, omega arith))
     (λ n i b t k f. absurd (true≢false f)) (λ n i b t r k x f. let y = x f in (omega arith, omega arith))
 
 -- start is not before the place, nor past end, and end is within the bytes.
-from-within : (a n i : ℕ) (t : List ℕ) → a + n ≤ i → (a ≤ foundFrom n i t .start) × (foundFrom n i t .start ≤ foundFrom n i t .end) × (foundFrom n i t .end ≤ i + length t)
+from-within : (a n i : ℕ) (t : List ℕ) → a + n ≤ i → (a ≤ foundFrom n i t .start) × (foundFrom n i t .start ≤ foundFrom n i t .end)
+    × (foundFrom n i t .end ≤ i + length t)
 from-within a =
-    found-ind (λ n i t r. a + n ≤ i → (a ≤ r .start) × (r .start ≤ r .end) × (r .end ≤ i + length t)) (λ n i h. (omega arith, omega arith, omega arith))
+    found-ind (λ n i t r. a + n ≤ i → (a ≤ r .start) × (r .start ≤ r .end) × (r .end ≤ i + length t))
+    (λ n i h. (omega arith, omega arith, omega arith))
     (λ n i b t k h. let l = ends-le n b in (omega arith, omega arith, omega arith))
     (λ n i b t r k x h. let l = held-le n b in let y = x (omega arith) in (omega arith, omega arith, omega arith))
 
@@ -114,7 +122,8 @@ drop-take : (s : List ℕ) (k n : ℕ) → k ≤ n → n ≤ length s → take (
 drop-take s k n h l =
     let e : length (take n s) ≡ n = length-take-le n s l in
     let k-fits : k ≤ length (take n s) = omega arith in
-    ap (λ (x : List ℕ). take (n - k) (drop k x)) (sym (take-append-drop n s)) ∙ rw (drop-append-le k (take n s) (drop n s) k-fits) (take-at (drop k (take n s)) (drop n s) (n - k) (rw (length-drop, e)))
+    ap (λ (x : List ℕ). take (n - k) (drop k x)) (sym (take-append-drop n s))
+    ∙ rw (drop-append-le k (take n s) (drop n s) k-fits) (take-at (drop k (take n s)) (drop n s) (n - k) (rw (length-drop, e)))
 
 line-here : (s : List ℕ) (i b : ℕ) (t : List ℕ) → drop i s ≡ b ∷ t → 1 ≤ endsHere (heldAfter 0 (take i s)) b
     → NextLine s i (record { line = true; start = i + 1 - endsHere (heldAfter 0 (take i s)) b; end = i + 1 })
@@ -133,7 +142,8 @@ line-here s i b t e k =
       shut = rw (u, given-is p b l .lf) (open-lf p);
     }
 
-line-from : (s : List ℕ) (n i : ℕ) (t : List ℕ) → drop i s ≡ t → heldAfter 0 (take i s) ≡ n → foundFrom n i t .line ≡ true → NextLine s i (foundFrom n i t)
+line-from : (s : List ℕ) (n i : ℕ) (t : List ℕ) → drop i s ≡ t → heldAfter 0 (take i s) ≡ n → foundFrom n i t .line ≡ true
+    → NextLine s i (foundFrom n i t)
 line-from s =
     found-ind (λ n i t r. drop i s ≡ t → heldAfter 0 (take i s) ≡ n → r .line ≡ true → NextLine s i r) (λ n i e h f. absurd (false≢true f))
     (λ n i b t k e h f. rw (← h) (line-here s i b t e (rw h k))) more
@@ -210,7 +220,8 @@ keep-held q t = go (open-is q)
             same-open q l t (o .line ∙ sym g) ∙ rw d (sym (rw (no-lf-none [] l (o .no-lf)) at (all-append [] l t)))
 
 -- A program that fetches more where none is found, and keeps only the bytes from start on, misses no line and adds none.
-pub slice-rest : (s : List ℕ) (at : ℕ) → foundAt s at .line ≡ false → (t : List ℕ) → givenAll [] (drop at s ++ t) ≡ givenAll [] (drop (foundAt s at .start) s ++ t)
+pub slice-rest : (s : List ℕ) (at : ℕ) → foundAt s at .line ≡ false → (t : List ℕ)
+    → givenAll [] (drop at s ++ t) ≡ givenAll [] (drop (foundAt s at .start) s ++ t)
 unfolding foundAt heldAfter
 slice-rest s at f t =
     let q = drop at s in

@@ -35,7 +35,8 @@ module _ (u i : ℕ) (k : u ≤ i + 81) where
   grown : cond (leb 1 (heldIn u i) && leb (heldIn u i) 80) (heldIn u i + 1) 0 ≡ heldIn u (i + 1)
   grown = go (leb u i) refl (leb u (i + 1)) refl
     where
-      go : (t : Bool) → leb u i ≡ t → (v : Bool) → leb u (i + 1) ≡ v → cond (leb 1 (heldIn u i) && leb (heldIn u i) 80) (heldIn u i + 1) 0 ≡ heldIn u (i + 1)
+      go : (t : Bool) → leb u i ≡ t → (v : Bool) → leb u (i + 1) ≡ v
+          → cond (leb 1 (heldIn u i) && leb (heldIn u i) 80) (heldIn u i + 1) 0 ≡ heldIn u (i + 1)
       go true e v f = let h = leb-true u i e in rw (held-low u i h, held-low u (i + 1) (omega arith))
       go false e true f =
           let h = leb-false u i e in
@@ -66,21 +67,24 @@ module _ (u i : ℕ) (k : u ≤ i + 81) where
       go false = omega arith
 
   -- A byte that ends no line.
-  pub held-on : (b : ℕ) → endedIn u i b ≤ 0 → (endsHere (heldIn u i) b < 1) × (heldNext (heldIn u i) b ≡ heldIn (reachOf u (i + 82) b) (i + 1))
+  pub held-on : (b : ℕ) → endedIn u i b ≤ 0 → (endsHere (heldIn u i) b < 1)
+      × (heldNext (heldIn u i) b ≡ heldIn (reachOf u (i + 82) b) (i + 1))
   unfolding endsHere heldNext
   held-on b = go (eqb b 36) refl (eqb b 10) refl
     where
       go : (t : Bool) → eqb b 36 ≡ t → (v : Bool) → eqb b 10 ≡ v → cond v (heldIn u i) 0 ≤ 0
           → (cond (v && (leb 1 (heldIn u i) && leb (heldIn u i) 81)) (heldIn u i + 1) 0 < 1)
           × (cond t 1 (cond v 0 (cond (leb 1 (heldIn u i) && leb (heldIn u i) 80) (heldIn u i + 1) 0)) ≡ heldIn (cond t (i + 82) u) (i + 1))
-      go true d true l h = let z = lt-leb 1 (heldIn u i) (omega arith) in (simp z (omega arith), sym (held-high (i + 82) (i + 1) (omega arith) ∙ omega arith))
+      go true d true l h = let z = lt-leb 1 (heldIn u i) (omega arith) in
+          (simp z (omega arith), sym (held-high (i + 82) (i + 1) (omega arith) ∙ omega arith))
       go true d false l h = (omega arith, sym (held-high (i + 82) (i + 1) (omega arith) ∙ omega arith))
       go false d true l h = let z = lt-leb 1 (heldIn u i) (omega arith) in (simp z (omega arith), simp z at grown)
       go false d false l h = (omega arith, grown)
 
 -- The slice finder at place i of s, where n is what the byte there ends.
 module _ (u i : ℕ) (s : List ℕ) (h : i < length s) (k : u ≤ i + 81) where
-  pub more : endedIn u i (getD s i 0) ≤ 0 → foundFrom (heldIn u i) i (drop i s) ≡ foundFrom (heldIn (reachOf u (i + 82) (getD s i 0)) (i + 1)) (i + 1) (drop (i + 1) s)
+  pub more : endedIn u i (getD s i 0) ≤ 0
+      → foundFrom (heldIn u i) i (drop i s) ≡ foundFrom (heldIn (reachOf u (i + 82) (getD s i 0)) (i + 1)) (i + 1) (drop (i + 1) s)
   more z =
       let p = held-on u i k (getD s i 0) z in
       rw (drop-cons s i 0 h) (from-more (heldIn u i) i (getD s i 0) (drop (suc i) s) (p .0) ∙ rw (p .1, add-one))
@@ -103,14 +107,17 @@ module _ (u i : ℕ) (s : List ℕ) (h : i < length s) (k : u ≤ i + 81) where
     pub plain-within : heldIn u i ≤ i → heldIn u (i + 1) ≤ i + 1
     plain-within l = rw plain-reach at (within plain-ends l)
 
-  pub line-at : (n : ℕ) → n ≡ endedIn u i (getD s i 0) → 0 < n → record { line = true; start = i - n; end = i + 1 } ≡ foundFrom (heldIn u i) i (drop i s)
+  pub line-at : (n : ℕ) → n ≡ endedIn u i (getD s i 0) → 0 < n
+      → record { line = true; start = i - n; end = i + 1 } ≡ foundFrom (heldIn u i) i (drop i s)
   unfolding endsHere
   line-at n e l = go (eqb (getD s i 0) 10) refl e
     where
-      go : (t : Bool) → eqb (getD s i 0) 10 ≡ t → n ≡ cond t (heldIn u i) 0 → record { line = true; start = i - n; end = i + 1 } ≡ foundFrom (heldIn u i) i (drop i s)
+      go : (t : Bool) → eqb (getD s i 0) 10 ≡ t → n ≡ cond t (heldIn u i) 0
+          → record { line = true; start = i - n; end = i + 1 } ≡ foundFrom (heldIn u i) i (drop i s)
       go false q e = let z : ⊥ = omega arith in absurd z
       go true q e =
           let a : 1 ≤ heldIn u i = omega arith in
-          let m : endsHere (heldIn u i) (getD s i 0) ≡ heldIn u i + 1 = simp (q, le-leb 1 (heldIn u i) a, le-leb (heldIn u i) 81 (short u i k)) in
+          let m : endsHere (heldIn u i) (getD s i 0) ≡ heldIn u i + 1 =
+          simp (q, le-leb 1 (heldIn u i) a, le-leb (heldIn u i) 81 (short u i k)) in
           let j : i + 1 - (heldIn u i + 1) ≡ i - n = omega arith in
           rw (drop-cons s i 0 h) (sym (from-line (heldIn u i) i (getD s i 0) (drop (suc i) s) (omega arith) ∙ rw (m, j)))

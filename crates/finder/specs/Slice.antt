@@ -16,7 +16,8 @@ pickFound false a b = b
 unfoldable pub foundFrom : ℕ → ℕ → List ℕ → Found
 foundFrom n i [] = record { line = false; start = i - n; end = i }
 foundFrom n i (b ∷ s) =
-    pickFound (leb 1 (endsHere n b)) (record { line = true; start = i + 1 - endsHere n b; end = i + 1 }) (foundFrom (heldNext n b) (i + 1) s)
+    pickFound (leb 1 (endsHere n b)) (record { line = true; start = i + 1 - endsHere n b; end = i + 1 })
+    (foundFrom (heldNext n b) (i + 1) s)
 
 unfoldable pub foundAt : List ℕ → ℕ → Found
 foundAt s at = foundFrom 0 at (drop at s)

@@ -41,7 +41,8 @@ module _ (form : List ℕ → Option ℕ) (text : ℕ → List ℕ) (lo hi : ℕ
   unfolding maybeOf rangeWrong
   maybe-in is f e = go (eqb (length f) 0) (form f) refl e
     where
-      go : (t : Bool) (o : Option ℕ) → form f ≡ o → pick t missing (gotOf o) .wrong ≡ 0 → rangeWrong lo hi (pick t missing (gotOf o) .there) (pick t missing (gotOf o) .value) ≡ 0
+      go : (t : Bool) (o : Option ℕ) → form f ≡ o → pick t missing (gotOf o) .wrong ≡ 0
+          → rangeWrong lo hi (pick t missing (gotOf o) .there) (pick t missing (gotOf o) .value) ≡ 0
       go true o q i = zero-outside
       go false none q i = let z : ⊥ = omega arith in absurd z
       go false (some v) q i = let r = is f v q in in-outside lo hi v (r .0) (r .1)
@@ -51,7 +52,8 @@ module _ (form : List ℕ → Option ℕ) (text : ℕ → List ℕ) (lo hi : ℕ
   unfolding maybeOf
   maybe-short is f e = go (eqb (length f) 0) (form f) refl e
     where
-      go : (t : Bool) (o : Option ℕ) → form f ≡ o → pick t missing (gotOf o) .wrong ≡ 0 → length (ifThere (pick t missing (gotOf o) .there) (text (pick t missing (gotOf o) .value))) ≤ length f
+      go : (t : Bool) (o : Option ℕ) → form f ≡ o → pick t missing (gotOf o) .wrong ≡ 0
+          → length (ifThere (pick t missing (gotOf o) .there) (text (pick t missing (gotOf o) .value))) ≤ length f
       go true o q i = omega arith
       go false none q i = let z : ⊥ = omega arith in absurd z
       go false (some v) q i = is f v q
@@ -62,31 +64,36 @@ module _ (form : List ℕ → Option ℤ) (text : ℤ → List ℕ) (hi : ℕ) w
   unfolding maybeIntOf signedWrong rangeWrong
   maybe-int-in is f e = go (eqb (length f) 0) (form f) refl e
     where
-      go : (t : Bool) (o : Option ℤ) → form f ≡ o → pick t missingInt (gotIntOf o) .wrong ≡ 0 → signedWrong hi (pick t missingInt (gotIntOf o) .there) (pick t missingInt (gotIntOf o) .value) ≡ 0
+      go : (t : Bool) (o : Option ℤ) → form f ≡ o → pick t missingInt (gotIntOf o) .wrong ≡ 0
+          → signedWrong hi (pick t missingInt (gotIntOf o) .there) (pick t missingInt (gotIntOf o) .value) ≡ 0
       go true o q i = zero-outside
       go false none q i = let z : ⊥ = omega arith in absurd z
       go false (some z) q i = in-outside 0 hi (natAbs z) (omega arith) (is f z q)
 
-  pub maybe-int-short : ((f : List ℕ) (z : ℤ) → form f ≡ some z → length (text z) ≤ length f) → (f : List ℕ) → maybeIntOf f (form f) .wrong ≡ 0
+  pub maybe-int-short : ((f : List ℕ) (z : ℤ) → form f ≡ some z → length (text z) ≤ length f) → (f : List ℕ)
+      → maybeIntOf f (form f) .wrong ≡ 0
       → length (ifThere (maybeIntOf f (form f) .there) (text (maybeIntOf f (form f) .value))) ≤ length f
   unfolding maybeIntOf
   maybe-int-short is f e = go (eqb (length f) 0) (form f) refl e
     where
-      go : (t : Bool) (o : Option ℤ) → form f ≡ o → pick t missingInt (gotIntOf o) .wrong ≡ 0 → length (ifThere (pick t missingInt (gotIntOf o) .there) (text (pick t missingInt (gotIntOf o) .value))) ≤ length f
+      go : (t : Bool) (o : Option ℤ) → form f ≡ o → pick t missingInt (gotIntOf o) .wrong ≡ 0
+          → length (ifThere (pick t missingInt (gotIntOf o) .there) (text (pick t missingInt (gotIntOf o) .value))) ≤ length f
       go true o q i = omega arith
       go false none q i = let z : ⊥ = omega arith in absurd z
       go false (some z) q i = is f z q
 
 -- A field that is never empty.
 module _ (form : List ℕ → Option ℕ) (text : ℕ → List ℕ) (lo hi : ℕ) where
-  pub told-in : ((f : List ℕ) (v : ℕ) → form f ≡ some v → (lo ≤ v) × (v ≤ hi)) → (f : List ℕ) → gotOf (form f) .wrong ≡ 0 → outside lo hi (gotOf (form f) .value) ≡ 0
+  pub told-in : ((f : List ℕ) (v : ℕ) → form f ≡ some v → (lo ≤ v) × (v ≤ hi)) → (f : List ℕ) → gotOf (form f) .wrong ≡ 0
+      → outside lo hi (gotOf (form f) .value) ≡ 0
   told-in is f e = go (form f) refl e
     where
       go : (o : Option ℕ) → form f ≡ o → gotOf o .wrong ≡ 0 → outside lo hi (gotOf o .value) ≡ 0
       go none q i = let z : ⊥ = omega arith in absurd z
       go (some v) q i = let r = is f v q in in-outside lo hi v (r .0) (r .1)
 
-  pub told-short : ((f : List ℕ) (v : ℕ) → form f ≡ some v → length (text v) ≤ length f) → (f : List ℕ) → gotOf (form f) .wrong ≡ 0 → length (text (gotOf (form f) .value)) ≤ length f
+  pub told-short : ((f : List ℕ) (v : ℕ) → form f ≡ some v → length (text v) ≤ length f) → (f : List ℕ) → gotOf (form f) .wrong ≡ 0
+      → length (text (gotOf (form f) .value)) ≤ length f
   told-short is f e = go (form f) refl e
     where
       go : (o : Option ℕ) → form f ≡ o → gotOf o .wrong ≡ 0 → length (text (gotOf o .value)) ≤ length f

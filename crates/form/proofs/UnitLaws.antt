@@ -24,7 +24,8 @@ pub unit-is : (u : List ℕ) (there : Bool) (b : ℕ) → unitWrong u there b �
 unfolding unitWrong
 unit-is u there b e = go u (same u (b ∷ [])) there refl e
   where
-    go : (x : List ℕ) (t h : Bool) → same u (b ∷ []) ≡ t → _≡_ {A = ℕ} (cond (t || (not h && eqb (length x) 0)) 0 1) 0 → (u ≡ b ∷ []) ⊎ ((x ≡ []) × (h ≡ false))
+    go : (x : List ℕ) (t h : Bool) → same u (b ∷ []) ≡ t → _≡_ {A = ℕ} (cond (t || (not h && eqb (length x) 0)) 0 1) 0
+        → (u ≡ b ∷ []) ⊎ ((x ≡ []) × (h ≡ false))
     go x true h p q = inl (same-true u (b ∷ []) p)
     go [] false false p q = inr (refl, refl)
     go (c ∷ x) false false p q = let k : _≡_ {A = ℕ} 1 0 = rw (eqb·suc-zero (length x)) at q in let z : ⊥ = omega arith in absurd z

@@ -39,17 +39,22 @@ no-size (pos n) e = ap pos e
 no-size (negsuc n) e = let z : ⊥ = omega arith in absurd z
 
 -- A field that may be empty, by what it reads where it is not.
-module _ (form : List ℕ → Option ℕ) (text : ℕ → List ℕ) (lo hi : ℕ) (reads : (v : ℕ) → lo ≤ v → v ≤ hi → form (text v) ≡ some v) (filled : (v : ℕ) → lo ≤ v → v ≤ hi → length (text v) ≡ 0 → ⊥) where
-  pub maybe-back : (there : Bool) (v : ℕ) → rangeWrong lo hi there v ≡ 0 → maybeOf (ifThere there (text v)) (form (ifThere there (text v))) ≡ theGot there v
+module _ (form : List ℕ → Option ℕ) (text : ℕ → List ℕ) (lo hi : ℕ) (reads : (v : ℕ) → lo ≤ v → v ≤ hi → form (text v) ≡ some v)
+    (filled : (v : ℕ) → lo ≤ v → v ≤ hi → length (text v) ≡ 0 → ⊥) where
+  pub maybe-back : (there : Bool) (v : ℕ) → rangeWrong lo hi there v ≡ 0
+      → maybeOf (ifThere there (text v)) (form (ifThere there (text v))) ≡ theGot there v
   unfolding rangeWrong maybeOf
   maybe-back true v e = let i = inside lo hi v e in rw (ne-eqb (length (text v)) 0 (filled v (i .0) (i .1)), reads v (i .0) (i .1))
   maybe-back false v e = let i = inside 0 0 v e in let q : 0 ≡ v = omega (arith, i .1) in ap (theGot false) q
 
-module _ (form : List ℕ → Option ℤ) (text : ℤ → List ℕ) (hi : ℕ) (reads : (z : ℤ) → natAbs z ≤ hi → form (text z) ≡ some z) (filled : (z : ℤ) → natAbs z ≤ hi → length (text z) ≡ 0 → ⊥) where
-  pub maybe-int-back : (there : Bool) (z : ℤ) → signedWrong hi there z ≡ 0 → maybeIntOf (ifThere there (text z)) (form (ifThere there (text z))) ≡ theGotInt there z
+module _ (form : List ℕ → Option ℤ) (text : ℤ → List ℕ) (hi : ℕ) (reads : (z : ℤ) → natAbs z ≤ hi → form (text z) ≡ some z)
+    (filled : (z : ℤ) → natAbs z ≤ hi → length (text z) ≡ 0 → ⊥) where
+  pub maybe-int-back : (there : Bool) (z : ℤ) → signedWrong hi there z ≡ 0
+      → maybeIntOf (ifThere there (text z)) (form (ifThere there (text z))) ≡ theGotInt there z
   unfolding signedWrong rangeWrong maybeIntOf
   maybe-int-back true z e = let i = inside 0 hi (natAbs z) e in rw (ne-eqb (length (text z)) 0 (filled z (i .1)), reads z (i .1))
-  maybe-int-back false z e = let i = inside 0 0 (natAbs z) e in let q : natAbs z ≡ 0 = omega (arith, i .1) in ap (theGotInt false) (sym (no-size z q))
+  maybe-int-back false z e = let i = inside 0 0 (natAbs z) e in let q : natAbs z ≡ 0 =
+      omega (arith, i .1) in ap (theGotInt false) (sym (no-size z q))
 
 -- Letters: of a unit, of a set, and none.
 pub unit-back : (there : Bool) (b : ℕ) → unitWrong (unitField there b) there b ≡ 0

@@ -67,8 +67,10 @@ six-none : (d : Date) → d .there ≡ false → sixWrong d ≡ 0 → (d .day �
 unfolding sixWrong
 six-none d q e =
     let t = zero-one (eqb (d .day) 0 && (eqb (d .month) 0 && eqb (d .year) 0)) (rw q at e) in
-    let s = and-right (eqb (d .day) 0) _ t in
-    (eqb-true (d .day) 0 (and-left _ _ t), (eqb-true (d .month) 0 (and-left _ _ s), eqb-true (d .year) 0 (and-right (eqb (d .month) 0) _ s)))
+    let s = and-right (eqb (d .day) 0) _ t in (
+      eqb-true (d .day) 0 (and-left _ _ t),
+      (eqb-true (d .month) 0 (and-left _ _ s), eqb-true (d .year) 0 (and-right (eqb (d .month) 0) _ s)),
+    )
 
 six-empty : dateSix [] ≡ record { wrong = 0; there = false; day = 0; month = 0; year = 0 }
 unfolding dateSix
@@ -104,7 +106,8 @@ zone-empty : zoneTwo [] [] ≡ missingInt
 unfolding zoneTwo
 zone-empty = refl
 
-pub zone-back : (z : Zone) → signedWrong 839 (z .there) (z .minutes) ≡ 0 → zoneTwo (hoursField z) (minutesField z) ≡ theGotInt (z .there) (z .minutes)
+pub zone-back : (z : Zone) → signedWrong 839 (z .there) (z .minutes) ≡ 0
+    → zoneTwo (hoursField z) (minutesField z) ≡ theGotInt (z .there) (z .minutes)
 zone-back z e = go (z .there) refl
   where
     go : (t : Bool) → z .there ≡ t → zoneTwo (hoursField z) (minutesField z) ≡ theGotInt (z .there) (z .minutes)
@@ -115,5 +118,6 @@ four-filled : (z : ℤ) → natAbs z ≤ 839 → length (fourText z) ≡ 0 → �
 four-filled (pos n) h e = omega (arith, length-append (printFixed 2 (n / 60)) (printFixed 2 (n % 60)), length-fixed 2 (n / 60))
 four-filled (negsuc n) h e = omega arith
 
-pub four-back : (there : Bool) (z : ℤ) → signedWrong 839 there z ≡ 0 → maybeIntOf (ifThere there (fourText z)) (zoneFour (ifThere there (fourText z))) ≡ theGotInt there z
+pub four-back : (there : Bool) (z : ℤ) → signedWrong 839 there z ≡ 0
+    → maybeIntOf (ifThere there (fourText z)) (zoneFour (ifThere there (fourText z))) ≡ theGotInt there z
 four-back = maybe-int-back zoneFour fourText 839 text-four four-filled

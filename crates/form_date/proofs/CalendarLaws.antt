@@ -51,7 +51,8 @@ six-sound f =
 -- What ZDA's three fields give.
 pub three-sound : (d m y : List ℕ) → Sound (dateThree d m y)
 unfolding dateThree
-three-sound d m y = pick-sound (eqb (length d) 0) _ _ (λ e. no-sound (cond (eqb (length m) 0) (cond (eqb (length y) 0) 0 3) 2)) (at-sound 1 2 3 _ _ _)
+three-sound d m y = pick-sound (eqb (length d) 0) _ _ (λ e. no-sound (cond (eqb (length m) 0) (cond (eqb (length y) 0) 0 3) 2))
+    (at-sound 1 2 3 _ _ _)
 
 -- No date is not one.
 not-there : {B : Type 0} (n d m y : ℕ) → noDate n ≡ theDate d m y → B
@@ -96,9 +97,11 @@ pub record Ranges (d m y : ℕ) : Type 0 where
 days-le : (m y d : ℕ) → 1 ≤ d → d ≤ daysIn m y → (d ≤ 31) × ((1 ≤ m) × (m ≤ 12))
 unfolding daysIn
 days-le m y d h k =
-    go (leb 1 m && leb m 12) (eqb m 2) (leapYear y) (eqb m 4 || (eqb m 6 || (eqb m 9 || eqb m 11))) (λ e. (leb-true 1 m (and-left _ _ e), leb-true m 12 (and-right (leb 1 m) _ e))) k
+    go (leb 1 m && leb m 12) (eqb m 2) (leapYear y) (eqb m 4 || (eqb m 6 || (eqb m 9 || eqb m 11)))
+    (λ e. (leb-true 1 m (and-left _ _ e), leb-true m 12 (and-right (leb 1 m) _ e))) k
   where
-    go : (t a b c : Bool) → (t ≡ true → (1 ≤ m) × (m ≤ 12)) → d ≤ cond t (cond a (cond b 29 28) (cond c 30 31)) 0 → (d ≤ 31) × ((1 ≤ m) × (m ≤ 12))
+    go : (t a b c : Bool) → (t ≡ true → (1 ≤ m) × (m ≤ 12)) → d ≤ cond t (cond a (cond b 29 28) (cond c 30 31)) 0 → (d ≤ 31)
+        × ((1 ≤ m) × (m ≤ 12))
     go true true true c r q = (omega arith, r refl)
     go true true false c r q = (omega arith, r refl)
     go true false b true r q = (omega arith, r refl)
@@ -190,7 +193,15 @@ module _ (d m y : ℕ) where
   unfolding dateThree dateAt
   text-three e =
       let r = date-ranges d m y e in
-      rw (length-fixed 2 d, fixed-rt 2 d (lit≤ tt) (omega arith), fixed-rt 2 m (lit≤ tt) (omega arith), fixed-rt 4 y (lit≤ tt) (omega arith), within-yes 1 31 d (r .day-from) (r .day-to), within-yes 1 12 m (r .month-from) (r .month-to), e)
+      rw (
+        length-fixed 2 d,
+        fixed-rt 2 d (lit≤ tt) (omega arith),
+        fixed-rt 2 m (lit≤ tt) (omega arith),
+        fixed-rt 4 y (lit≤ tt) (omega arith),
+        within-yes 1 31 d (r .day-from) (r .day-to),
+        within-yes 1 12 m (r .month-from) (r .month-to),
+        e,
+      )
 
 -- Three fields that ZDA reads as a date are the texts of its parts, and it exists.
 pub three-text : (a b c : List ℕ) (d m y : ℕ) → dateThree a b c ≡ theDate d m y

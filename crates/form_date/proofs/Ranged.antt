@@ -24,7 +24,8 @@ use Rattle.form_date.specs.declared.dates.GotDate.{GotDate}
 use Rattle.form_date.proofs.CalendarLaws.{date-ranges, Ranges, six-sound, six-text, three-sound}
 use Rattle.form_date.proofs.ZoneLaws.{four-range, two-range}
 
-pub four-in : (f : List ℕ) → maybeIntOf f (zoneFour f) .wrong ≡ 0 → signedWrong 839 (maybeIntOf f (zoneFour f) .there) (maybeIntOf f (zoneFour f) .value) ≡ 0
+pub four-in : (f : List ℕ) → maybeIntOf f (zoneFour f) .wrong ≡ 0
+    → signedWrong 839 (maybeIntOf f (zoneFour f) .there) (maybeIntOf f (zoneFour f) .value) ≡ 0
 four-in = maybe-int-in zoneFour fourText 839 four-range
 
 -- Dates: a date that is not there holds zeros.
@@ -54,7 +55,8 @@ six-zeros f = pick-zeros (eqb (length f) 0) _ _ (no-zeros 0) (pick-zeros (eqb (l
 
 three-zeros : (d m y : List ℕ) → Zeros (dateThree d m y)
 unfolding dateThree
-three-zeros d m y = pick-zeros (eqb (length d) 0) _ _ (no-zeros (cond (eqb (length m) 0) (cond (eqb (length y) 0) 0 3) 2)) (at-zeros 1 2 3 _ _ _)
+three-zeros d m y = pick-zeros (eqb (length d) 0) _ _ (no-zeros (cond (eqb (length m) 0) (cond (eqb (length y) 0) 0 3) 2))
+    (at-zeros 1 2 3 _ _ _)
 
 module _ (g : GotDate) (sound : g .there ≡ true → isDate (g .day) (g .month) (g .year) ≡ true) (zeros : Zeros g) where
   six-good : sixWrong (datedOf g) ≡ 0
@@ -97,10 +99,18 @@ six-short f e = go (dateSix f .there) refl
   where
     whole : dateSix f .there ≡ true → dateSix f ≡ theDate (dateSix f .day) (dateSix f .month) (dateSix f .year)
     whole q =
-        ap (λ (w : ℕ). record { wrong = w; there = dateSix f .there; day = dateSix f .day; month = dateSix f .month; year = dateSix f .year }) e
+        ap (λ (w : ℕ). record {
+          wrong = w;
+          there = dateSix f .there;
+          day = dateSix f .day;
+          month = dateSix f .month;
+          year = dateSix f
+              .year;
+        }) e
         ∙ ap (λ (t : Bool). record { wrong = 0; there = t; day = dateSix f .day; month = dateSix f .month; year = dateSix f .year }) q
 
-    go : (t : Bool) → dateSix f .there ≡ t → length (ifThere (dateSix f .there) (sixText (dateSix f .day) (dateSix f .month) (dateSix f .year))) ≤ length f
+    go : (t : Bool) → dateSix f .there ≡ t
+        → length (ifThere (dateSix f .there) (sixText (dateSix f .day) (dateSix f .month) (dateSix f .year))) ≤ length f
     go true q =
         let l = six-text f (dateSix f .day) (dateSix f .month) (dateSix f .year) (whole q) in
         rw q (subst (λ (x : List ℕ). length x ≤ length f) (l .1) (omega arith))

@@ -76,7 +76,9 @@ four-parts : (f : List ℕ) (z : ℤ) → zoneFour f ≡ some z
     → (length (bareOf f) ≡ 4) × Parts (minus f) (withinOf 0 13 (pairAt 0 (bareOf f))) (withinOf 0 59 (pairAt 2 (bareOf f))) z
 unfolding zoneFour
 four-parts f z e =
-    let t = through (eqb (length (bareOf f)) 4) (bind (withinOf 0 13 (pairAt 0 (bareOf f))) λ h. bind (withinOf 0 59 (pairAt 2 (bareOf f))) λ m. zoneOf (minus f) (h * 60 + m)) z e in
+    let t = through (eqb (length (bareOf f)) 4)
+    (bind (withinOf 0 13 (pairAt 0 (bareOf f))) λ h. bind (withinOf 0 59 (pairAt 2 (bareOf f))) λ m. zoneOf (minus f)
+    (h * 60 + m)) z e in
     (eqb-true (length (bareOf f)) 4 (t .0), parts (minus f) _ _ z (t .1))
 
 -- A zone in one field is within 839 minutes of zero.
@@ -97,7 +99,8 @@ pub two-range : (h m : List ℕ) → natAbs (zoneTwo h m .value) ≤ 839
 unfolding zoneTwo
 two-range h m = go (eqb (length h) 0) (eqb (length m) 0)
   where
-    go : (a b : Bool) → natAbs (pick a (pick b missingInt (record { wrong = 2; there = false; value = pos 0 })) (zoneAt 2 (minus h) (withinOf 0 13 (digitsOf 2 2 (bareOf h))) (withinOf 0 59 (digitsOf 2 2 m))) .value) ≤ 839
+    go : (a b : Bool) → natAbs (pick a (pick b missingInt (record { wrong = 2; there = false; value = pos 0 }))
+        (zoneAt 2 (minus h) (withinOf 0 13 (digitsOf 2 2 (bareOf h))) (withinOf 0 59 (digitsOf 2 2 m))) .value) ≤ 839
     go true true = omega arith
     go true false = omega arith
     go false b = at-le 2 (minus h) (digitsOf 2 2 (bareOf h)) (digitsOf 2 2 m) _ refl
@@ -174,7 +177,8 @@ pub two-text : (h m : List ℕ) (z : ℤ) → zoneTwo h m ≡ theInt z
     → (natAbs z ≤ 839) × ((h ≡ signText z ++ printFixed 2 (natAbs z / 60)) × (m ≡ printFixed 2 (natAbs z % 60)))
 unfolding zoneTwo
 two-text h m z e =
-    let t = not-there (eqb (length h) 0) (pick (eqb (length m) 0) missingInt (record { wrong = 2; there = false; value = pos 0 })) _ z (empty (eqb (length m) 0)) e in
+    let t = not-there (eqb (length h) 0) (pick (eqb (length m) 0) missingInt (record { wrong = 2; there = false; value = pos 0 })) _ z
+    (empty (eqb (length m) 0)) e in
     let r = reads (minus h) (digitsOf 2 2 (bareOf h)) (digitsOf 2 2 m) z (at-parts (minus h) _ _ z (t .1)) in (
       r .range,
       (
@@ -200,7 +204,8 @@ unfolding minus printFixed
 digit-first n l = ne-eqb (48 + n / 10 % 10) 45 (λ e. omega arith)
 
 signed-first : (z : ℤ) (n : ℕ) (l : List ℕ)
-    → (signText z ≡ cond (minus (signText z ++ (printFixed 2 n ++ l))) (45 ∷ []) []) × (bareOf (signText z ++ (printFixed 2 n ++ l)) ≡ printFixed 2 n ++ l)
+    → (signText z ≡ cond (minus (signText z ++ (printFixed 2 n ++ l))) (45 ∷ []) [])
+    × (bareOf (signText z ++ (printFixed 2 n ++ l)) ≡ printFixed 2 n ++ l)
 unfolding bareOf
 signed-first (pos k) n l = rw (digit-first n l) (refl, refl)
 signed-first (negsuc k) n l = unfold minus in (refl, refl)
@@ -231,11 +236,26 @@ module _ (z : ℤ) (k : natAbs z ≤ 839) where
   unfolding zoneFour bind
   text-four =
       let t = signed-first z (natAbs z / 60) (printFixed 2 (natAbs z % 60)) in
-      rw (t .1, shape, bytes-0, bytes-2, within-yes 0 13 (natAbs z / 60) (omega arith) (omega arith), within-yes 0 59 (natAbs z % 60) (omega arith) (omega arith)) (joined _ (t .0))
+      rw (
+        t .1,
+        shape,
+        bytes-0,
+        bytes-2,
+        within-yes 0 13 (natAbs z / 60) (omega arith) (omega arith),
+        within-yes 0 59 (natAbs z % 60) (omega arith) (omega arith),
+      ) (joined _ (t .0))
 
   -- And so it is in two fields.
   pub text-two : zoneTwo (signText z ++ printFixed 2 (natAbs z / 60)) (printFixed 2 (natAbs z % 60)) ≡ theInt z
   unfolding zoneTwo zoneAt bind
   text-two =
       let t = rw append-nil at (signed-first z (natAbs z / 60) []) in
-      rw (ne-eqb (length (signText z ++ printFixed 2 (natAbs z / 60))) 0 (λ e. some-bytes z (natAbs z / 60) e), t .1, fixed-rt 2 (natAbs z / 60) (lit≤ tt) (omega arith), fixed-rt 2 (natAbs z % 60) (lit≤ tt) (omega arith), within-yes 0 13 (natAbs z / 60) (omega arith) (omega arith), within-yes 0 59 (natAbs z % 60) (omega arith) (omega arith), joined _ (t .0))
+      rw (
+        ne-eqb (length (signText z ++ printFixed 2 (natAbs z / 60))) 0 (λ e. some-bytes z (natAbs z / 60) e),
+        t .1,
+        fixed-rt 2 (natAbs z / 60) (lit≤ tt) (omega arith),
+        fixed-rt 2 (natAbs z % 60) (lit≤ tt) (omega arith),
+        within-yes 0 13 (natAbs z / 60) (omega arith) (omega arith),
+        within-yes 0 59 (natAbs z % 60) (omega arith) (omega arith),
+        joined _ (t .0),
+      )

@@ -19,7 +19,8 @@ noDate n = record { wrong = n; there = false; day = 0; month = 0; year = 0 }
 abbrev pub theDate : ℕ → ℕ → ℕ → GotDate
 theDate d m y = record { wrong = 0; there = true; day = d; month = m; year = y }
 
--- The date of a day, a month and a year that stand in the fields a, b and c. The first bad one is wrong; the last, where there is no such date.
+-- The date of a day, a month and a year that stand in the fields a, b and c. The first bad one is wrong; the last, where there is no such
+-- date.
 unfoldable pub dateAt : ℕ → ℕ → ℕ → Option ℕ → Option ℕ → Option ℕ → GotDate
 dateAt a b c none om oy = noDate a
 dateAt a b c (some d) none oy = noDate b

@@ -62,7 +62,8 @@ unfoldable pub zoneFour : List ℕ → Option ℤ
 unfolding bind
 zoneFour f =
     cond (eqb (length (bareOf f)) 4)
-    (bind (withinOf 0 hoursMost (pairAt 0 (bareOf f))) λ h. bind (withinOf 0 minutesMost (pairAt 2 (bareOf f))) λ m. zoneOf (minus f) (h * 60 + m))
+    (bind (withinOf 0 hoursMost (pairAt 0 (bareOf f))) λ h. bind (withinOf 0 minutesMost (pairAt 2 (bareOf f))) λ m. zoneOf (minus f)
+    (h * 60 + m))
     none
 
 -- The hours with their sign, and the minutes, of a zone in signed minutes; and both as one field.

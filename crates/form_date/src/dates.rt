@@ -153,7 +153,8 @@ pub fn six_in(s: &[u8], p: &[usize], k: usize) -> GotDate
 
 // A date in three fields, all or none.
 pub fn three_in(s: &[u8], p: &[usize], k1: usize, k2: usize, k3: usize) -> GotDate
-    ensures { λ r. ⌜ r ≡ dateThree (fieldIn (now (p .entry)) k1 (now (s .entry))) (fieldIn (now (p .entry)) k2 (now (s .entry))) (fieldIn (now (p .entry)) k3 (now (s .entry))) ⌝ }
+    ensures { λ r. ⌜ r ≡ dateThree (fieldIn (now (p .entry)) k1 (now (s .entry))) (fieldIn (now (p .entry)) k2 (now (s .entry)))
+        (fieldIn (now (p .entry)) k3 (now (s .entry))) ⌝ }
 {
     three(
         fields::field_in(s, p, k1),

@@ -70,10 +70,12 @@ no-port = zero-outside
 
 -- Masks of satellites, in a command and in a reply, and of a port.
 module _ (w hi : ℕ) (a : 1 ≤ w) (b : w ≤ 8) (c : hi < 16 ^ w) where
-  pub satellites-back : (there : Bool) (v : ℕ) → rangeWrong 0 hi there v ≡ 0 → satellitesForm w (ifThere there (printHex w v)) ≡ theGot there v
+  pub satellites-back : (there : Bool) (v : ℕ) → rangeWrong 0 hi there v ≡ 0
+      → satellitesForm w (ifThere there (printHex w v)) ≡ theGot there v
   unfolding satellitesForm
   satellites-back =
-      maybe-back (satellitesOf w) (printHex w) 0 hi (λ v l h. text-satellites w w v a (omega arith) b (omega arith)) (λ v l h e. omega (arith, length-hex w v))
+      maybe-back (satellitesOf w) (printHex w) 0 hi (λ v l h. text-satellites w w v a (omega arith) b (omega arith))
+      (λ v l h e. omega (arith, length-hex w v))
 
   pub whole-back : (v : ℕ) → outside 0 hi v ≡ 0 → wholeForm w (printHex w v) ≡ theGot true v
   unfolding wholeForm
@@ -129,7 +131,8 @@ code-back v e =
 
 -- Masks, rates, codes and a zone in one field.
 module _ (w hi : ℕ) (most : 16 ^ w ≤ suc hi) where
-  pub satellites-in : (f : List ℕ) → satellitesForm w f .wrong ≡ 0 → rangeWrong 0 hi (satellitesForm w f .there) (satellitesForm w f .value) ≡ 0
+  pub satellites-in : (f : List ℕ) → satellitesForm w f .wrong ≡ 0
+      → rangeWrong 0 hi (satellitesForm w f .there) (satellitesForm w f .value) ≡ 0
   unfolding satellitesForm
   satellites-in = maybe-in (satellitesOf w) (printHex w) 0 hi (λ f v e. (omega arith, omega (arith, most, satellites-lt w f v e)))
 
@@ -141,7 +144,8 @@ pub port-in : (f : List ℕ) → portMaskForm f .wrong ≡ 0 → portWrong (port
 unfolding portMaskForm maybeOf portWrong
 port-in f e = go (eqb (length f) 0) (portMaskOf f) refl e
   where
-    go : (t : Bool) (o : Option ℕ) → portMaskOf f ≡ o → pick t missing (gotOf o) .wrong ≡ 0 → portWrong (pick t missing (gotOf o) .there) (pick t missing (gotOf o) .value) ≡ 0
+    go : (t : Bool) (o : Option ℕ) → portMaskOf f ≡ o → pick t missing (gotOf o) .wrong ≡ 0
+        → portWrong (pick t missing (gotOf o) .there) (pick t missing (gotOf o) .value) ≡ 0
     go true o q i = zero-outside
     go false none q i = let z : ⊥ = omega arith in absurd z
     go false (some v) q i = rw (port-mask-is f v q)

@@ -69,7 +69,14 @@ unfolding printHex hexFrom
 hex-rt zero v n = rw (mul-one, mod-one, add-zero)
 hex-rt (suc w) v n =
     snoc (printHex w (v / 16)) (hexOf (v % 16)) n _ (hex-rt w (v / 16) n)
-    ∙ rw (hex-is (v % 16) (omega arith), value-of (v % 16), sum-up, pow-suc, mod-mul v {m = 16 ^ w} {c = 16} (one-le-pow w 16 (lit< tt)) (lit< tt))
+    ∙ rw (
+      hex-is (v % 16) (omega arith),
+      value-of (v % 16),
+      sum-up,
+      pow-suc,
+      mod-mul v {m = 16 ^ w} {c = 16} (one-le-pow w 16 (lit< tt))
+          (lit< tt),
+    )
 
 -- What is printed in lo to hi digits, and no more than eight, is read again.
 pub text-hex : (lo hi w v : ℕ) → lo ≤ w → w ≤ hi → w ≤ 8 → v < 16 ^ w → hexDigitsOf lo hi (printHex w v) ≡ some v
@@ -92,7 +99,8 @@ pub port-text : (f : List ℕ) (v : ℕ) → portMaskOf f ≡ some v → (isPort
 unfolding portMaskOf bind
 port-text f v e = go (hexDigitsOf 4 4 f) refl e
   where
-    go : (o : Option ℕ) → hexDigitsOf 4 4 f ≡ o → bind o (λ n. cond (isPortMask n) (some n) none) ≡ some v → (isPortMask v ≡ true) × (f ≡ printHex 4 v)
+    go : (o : Option ℕ) → hexDigitsOf 4 4 f ≡ o → bind o (λ n. cond (isPortMask n) (some n) none) ≡ some v → (isPortMask v ≡ true)
+        × (f ≡ printHex 4 v)
     go none p q = nothing v q
     go (some n) p q =
         let t = through (isPortMask n) (some n) v q in
@@ -116,7 +124,8 @@ pub satellites-text : (w : ℕ) (f : List ℕ) (v : ℕ) → satellitesOf w f �
 unfolding satellitesOf
 satellites-text w f v e = go (same f (ascii "-1")) refl (leb w 8) refl e
   where
-    go : (a : Bool) → same f (ascii "-1") ≡ a → (b : Bool) → leb w 8 ≡ b → cond a (cond b (some (16 ^ w - 1)) none) (hexDigitsOf 1 w f) ≡ some v
+    go : (a : Bool) → same f (ascii "-1") ≡ a → (b : Bool) → leb w 8 ≡ b
+        → cond a (cond b (some (16 ^ w - 1)) none) (hexDigitsOf 1 w f) ≡ some v
         → ((f ≡ ascii "-1") × ((w ≤ 8) × (v ≡ 16 ^ w - 1))) ⊎ ((1 ≤ length f) × ((length f ≤ w) × (f ≡ printHex (length f) v)))
     go true p true r q = inl (same-true f (ascii "-1") p, (leb-true w 8 r, let s : 16 ^ w - 1 ≡ v = cc in sym s))
     go true p false r q = nothing v q

@@ -79,7 +79,8 @@ no-zero (suc (suc n)) v h k =
     let l : 1 < suc (suc n) = omega arith in
     let m : 10 ^ suc n ≤ v = rw sub-one at (k l) in
     let o : v < 10 ^ suc n * 10 = rw pow-suc at h in
-    rw (lt-ltb 1 (suc (suc n)) l) (ne-eqb (getD (printFixed (suc (suc n)) v) 0 0) 48 (λ e. lead-back v (10 ^ suc n) (one-le-pow (suc n) 10 (lit< tt)) m o (sym (first (suc n) v) ∙ e)))
+    rw (lt-ltb 1 (suc (suc n)) l) (ne-eqb (getD (printFixed (suc (suc n)) v) 0 0) 48
+    (λ e. lead-back v (10 ^ suc n) (one-le-pow (suc n) 10 (lit< tt)) m o (sym (first (suc n) v) ∙ e)))
 
 -- Such a text is read so.
 pub text-plain : (lo hi : ℕ) (f : List ℕ) (v : ℕ) → hi ≤ 9 → PlainText lo hi f v → plainOf lo hi f ≡ some v

@@ -8,7 +8,8 @@ ghost use lib.ListN.{length};
 ghost use Rattle.digits.specs.Hex.{hexDigit, hexValue};
 ghost use Rattle.digits.specs.Means.{num};
 ghost use Rattle.fields.specs.Places.{fieldIn};
-ghost use Rattle.form_mask.specs.Masks.{hexDigitsOf, hexFrom, isPortMask, portMaskForm, portMaskOf, satellitesForm, satellitesOf, wholeForm};
+ghost use Rattle.form_mask.specs.Masks.{hexDigitsOf, hexFrom, isPortMask, portMaskForm, portMaskOf, satellitesForm, satellitesOf};
+ghost use Rattle.form_mask.specs.Masks.{wholeForm};
 
 fn wide(b: u8) -> u32
     ensures { λ r. ⌜ r ≡ b ⌝ }

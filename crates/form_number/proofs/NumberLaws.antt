@@ -43,16 +43,19 @@ pub number-lt : (f : List ℕ) (v : ℕ) → numberOf f ≡ some v → v < 10000
 unfolding numberOf bind
 number-lt f v e = go (digitsOf 1 6 (before f)) refl e
   where
-    behind-point : (n : ℕ) (o : Option ℕ) → n < 1000000 → thousandths (behind f) ≡ o → Option·map (λ m. n * 1000 + m) o ≡ some v → v < 1000000000
+    behind-point : (n : ℕ) (o : Option ℕ) → n < 1000000 → thousandths (behind f) ≡ o → Option·map (λ m. n * 1000 + m) o ≡ some v
+        → v < 1000000000
     behind-point n (some m) h d q = let p : n * 1000 + m ≡ v = cc in omega (arith, thousandths-lt (behind f) m d)
     behind-point n none h d q = nothing v q
 
-    by-point : (n : ℕ) (t : Bool) → n < 1000000 → cond t (Option·map (λ m. n * 1000 + m) (thousandths (behind f))) (some (n * 1000)) ≡ some v → v < 1000000000
+    by-point : (n : ℕ) (t : Bool) → n < 1000000 → cond t (Option·map (λ m. n * 1000 + m) (thousandths (behind f)))
+        (some (n * 1000)) ≡ some v → v < 1000000000
     by-point n true h q = behind-point n (thousandths (behind f)) h refl q
     by-point n false h q = let p : n * 1000 ≡ v = cc in omega arith
 
     go : (o : Option ℕ) → digitsOf 1 6 (before f) ≡ o
-        → bind o (λ n. cond (ltb (findIn 46 f) (length f)) (Option·map (λ m. n * 1000 + m) (thousandths (behind f))) (some (n * 1000))) ≡ some v → v < 1000000000
+        → bind o (λ n. cond (ltb (findIn 46 f) (length f)) (Option·map (λ m. n * 1000 + m) (thousandths (behind f)))
+        (some (n * 1000))) ≡ some v → v < 1000000000
     go (some n) d q = by-point n (ltb (findIn 46 f) (length f)) (digits-lt 1 6 (before f) n d) q
     go none d q = nothing v q
 
@@ -81,7 +84,8 @@ unfolding heightOf
 height-lt [] z e = nothing z e
 height-lt (b ∷ f) z e = go (eqb b 45) e
   where
-    go : (t : Bool) → cond t (Option·map (signed true) (numberOf f)) (Option·map (signed false) (numberOf (b ∷ f))) ≡ some z → natAbs z < 1000000000
+    go : (t : Bool) → cond t (Option·map (signed true) (numberOf f)) (Option·map (signed false) (numberOf (b ∷ f))) ≡ some z
+        → natAbs z < 1000000000
     go true q = signed-size true f z q
     go false q = signed-size false (b ∷ f) z q
 

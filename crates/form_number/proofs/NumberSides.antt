@@ -45,15 +45,23 @@ find-point w n t = find-past 46 w n (46 ∷ t) (lit< tt) ∙ zero-add w
 whole-reads : (k n : ℕ) → 1 ≤ k → k ≤ 6 → n < 10 ^ k → numberOf (printFixed k n) ≡ some (n * 1000)
 unfolding numberOf before bind
 whole-reads k n a b h =
-    rw (find-fixed, length-fixed, take-all k (printFixed k n) (omega (arith, length-fixed k n)), digits-read 1 6 k n a b (omega arith) h, le-ltb k k (omega arith))
+    rw (
+      find-fixed,
+      length-fixed,
+      take-all k (printFixed k n) (omega (arith, length-fixed k n)),
+      digits-read 1 6 k n a b (omega arith) h,
+      le-ltb k k (omega arith),
+    )
 
 pointed-reads : (k n j m : ℕ) → 1 ≤ k → k ≤ 6 → n < 10 ^ k → 1 ≤ j → j ≤ 3 → m < 10 ^ j
     → numberOf (printFixed k n ++ (46 ∷ printFixed j m)) ≡ some (n * 1000 + m * 10 ^ (3 - j))
 unfolding numberOf before behind thousandths bind
 pointed-reads k n j m a b h c d i =
-    let l : length (printFixed k n ++ (46 ∷ printFixed j m)) ≡ k + suc j = length-append (printFixed k n) (46 ∷ printFixed j m) ∙ rw (length-fixed k n, length-fixed j m) in
+    let l : length (printFixed k n ++ (46 ∷ printFixed j m)) ≡ k + suc j = length-append (printFixed k n) (46 ∷ printFixed j m)
+    ∙ rw (length-fixed k n, length-fixed j m) in
     let f : k < length (printFixed k n ++ (46 ∷ printFixed j m)) = rw l (omega arith) in
-    let p : drop (k + 1) (printFixed k n ++ (46 ∷ printFixed j m)) ≡ printFixed j m = rw (ap (λ (x : ℕ). x + 1) (sym (length-fixed k n)), drop-append-add) in
+    let p : drop (k + 1) (printFixed k n ++ (46 ∷ printFixed j m)) ≡ printFixed j m =
+    rw (ap (λ (x : ℕ). x + 1) (sym (length-fixed k n)), drop-append-add) in
     rw (
       find-point,
       lt-ltb _ _ f,
@@ -79,7 +87,8 @@ at-point (x ∷ f) h = go (eqb x 46) refl h (at-point f)
         → (findIn 46 f < length f → f ≡ take (findIn 46 f) f ++ (46 ∷ drop (findIn 46 f + 1) f))
         → x ∷ f ≡ take (cond t 0 (findIn 46 f + 1)) (x ∷ f) ++ (46 ∷ drop (cond t 0 (findIn 46 f + 1) + 1) (x ∷ f))
     go true e k r = rw (eqb-true x 46 e)
-    go false e k r = rw (add-one (findIn 46 f), add-one (suc (findIn 46 f))) (ap (λ (l : List ℕ). x ∷ l) (rw (add-one (findIn 46 f)) at (r (omega arith))))
+    go false e k r = rw (add-one (findIn 46 f), add-one (suc (findIn 46 f)))
+        (ap (λ (l : List ℕ). x ∷ l) (rw (add-one (findIn 46 f)) at (r (omega arith))))
 
 no-point : (f : List ℕ) → length f ≤ findIn 46 f → before f ≡ f
 unfolding before
@@ -114,7 +123,8 @@ number-is f v e = go (digitsOf 1 6 (before f)) refl e
         (subst (λ (l : List ℕ). Written l (n * 1000)) t (whole (a .0) (a .1) (digits-len 1 6 (before f) n d)))
 
     go : (o : Option ℕ) → digitsOf 1 6 (before f) ≡ o
-        → bind o (λ n. cond (ltb (findIn 46 f) (length f)) (Option·map (λ m. n * 1000 + m) (thousandths (behind f))) (some (n * 1000))) ≡ some v → Written f v
+        → bind o (λ n. cond (ltb (findIn 46 f) (length f)) (Option·map (λ m. n * 1000 + m) (thousandths (behind f)))
+        (some (n * 1000))) ≡ some v → Written f v
     go (some n) d q = by-point n (ltb (findIn 46 f) (length f)) d refl q
     go none d q = nothing v q
 
@@ -127,7 +137,8 @@ pub data WrittenHeight : List ℕ → ℤ → Type 0 where
 past-minus : {f : List ℕ} {v : ℕ} → Written f v → 1 ≤ findIn 45 f
 unfolding findIn
 past-minus (whole {k} {n} a b h) =
-    let e : findIn 45 (printFixed k n) ≡ k = ap (findIn 45) (sym (append-nil (printFixed k n))) ∙ find-past 45 k n [] (lit< tt) ∙ zero-add k in
+    let e : findIn 45 (printFixed k n) ≡ k = ap (findIn 45) (sym (append-nil (printFixed k n))) ∙ find-past 45 k n [] (lit< tt)
+    ∙ zero-add k in
     rw e a
 past-minus (pointed {k} {n} {j} {m} a b h c d i) = rw (find-past 45 k n (46 ∷ printFixed j m) (lit< tt)) (omega arith)
 
@@ -137,7 +148,8 @@ without-minus [] h = let z : ⊥ = omega arith in absurd z
 without-minus (b ∷ f) h = go (eqb b 45) h
   where
     go : (t : Bool) → 1 ≤ cond t 0 (findIn 45 f + 1)
-        → cond t (Option·map (signed true) (numberOf f)) (Option·map (signed false) (numberOf (b ∷ f))) ≡ Option·map (signed false) (numberOf (b ∷ f))
+        → cond t (Option·map (signed true) (numberOf f)) (Option·map (signed false) (numberOf (b ∷ f))) ≡ Option·map (signed false)
+        (numberOf (b ∷ f))
     go true k = let z : ⊥ = omega arith in absurd z
     go false k = refl
 
@@ -155,14 +167,16 @@ height-is (b ∷ f) z e = go (eqb b 45) refl e
   where
     plainly : (o : Option ℕ) → numberOf (b ∷ f) ≡ o → Option·map (signed false) o ≡ some z → WrittenHeight (b ∷ f) z
     plainly none d q = nothing z q
-    plainly (some v) d q = subst (λ (x : ℤ). WrittenHeight (b ∷ f) x) (Option·some-injective (signed false v) z q) (plain (number-is (b ∷ f) v d))
+    plainly (some v) d q = subst (λ (x : ℤ). WrittenHeight (b ∷ f) x) (Option·some-injective (signed false v) z q)
+        (plain (number-is (b ∷ f) v d))
 
     negated : (o : Option ℕ) → b ≡ 45 → numberOf f ≡ o → Option·map (signed true) o ≡ some z → WrittenHeight (b ∷ f) z
     negated none h d q = nothing z q
     negated (some v) h d q =
         rw h (subst (λ (x : ℤ). WrittenHeight (45 ∷ f) x) (Option·some-injective (signed true v) z q) (minus (number-is f v d)))
 
-    go : (t : Bool) → eqb b 45 ≡ t → cond t (Option·map (signed true) (numberOf f)) (Option·map (signed false) (numberOf (b ∷ f))) ≡ some z → WrittenHeight (b ∷ f) z
+    go : (t : Bool) → eqb b 45 ≡ t → cond t (Option·map (signed true) (numberOf f))
+        (Option·map (signed false) (numberOf (b ∷ f))) ≡ some z → WrittenHeight (b ∷ f) z
     go true h q = negated (numberOf f) (eqb-true b 45 h) refl q
     go false h q = plainly (numberOf (b ∷ f)) refl q
 

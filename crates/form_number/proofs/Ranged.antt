@@ -34,16 +34,19 @@ module _ (w lo hi : ℕ) where
   fixed-long : (f : List ℕ) (v : ℕ) → fixedOf w lo hi f ≡ some v → length (printFixed w v) ≤ length f
   fixed-long f v e = let i = fixed-is w lo hi f v e in rw (i .0) (omega arith)
 
-  pub fixed-in : (f : List ℕ) → maybeOf f (fixedOf w lo hi f) .wrong ≡ 0 → rangeWrong lo hi (maybeOf f (fixedOf w lo hi f) .there) (maybeOf f (fixedOf w lo hi f) .value) ≡ 0
+  pub fixed-in : (f : List ℕ) → maybeOf f (fixedOf w lo hi f) .wrong ≡ 0
+      → rangeWrong lo hi (maybeOf f (fixedOf w lo hi f) .there) (maybeOf f (fixedOf w lo hi f) .value) ≡ 0
   fixed-in = maybe-in (fixedOf w lo hi) (printFixed w) lo hi fixed-range
 
-  pub fixed-short : (f : List ℕ) → maybeOf f (fixedOf w lo hi f) .wrong ≡ 0 → length (ifThere (maybeOf f (fixedOf w lo hi f) .there) (printFixed w (maybeOf f (fixedOf w lo hi f) .value))) ≤ length f
+  pub fixed-short : (f : List ℕ) → maybeOf f (fixedOf w lo hi f) .wrong ≡ 0
+      → length (ifThere (maybeOf f (fixedOf w lo hi f) .there) (printFixed w (maybeOf f (fixedOf w lo hi f) .value))) ≤ length f
   fixed-short = maybe-short (fixedOf w lo hi) (printFixed w) lo hi fixed-long
 
   pub exact-in : (f : List ℕ) → gotOf (fixedOf w lo hi f) .wrong ≡ 0 → outside lo hi (gotOf (fixedOf w lo hi f) .value) ≡ 0
   exact-in = told-in (fixedOf w lo hi) (printFixed w) lo hi fixed-range
 
-  pub exact-short : (f : List ℕ) → gotOf (fixedOf w lo hi f) .wrong ≡ 0 → length (printFixed w (gotOf (fixedOf w lo hi f) .value)) ≤ length f
+  pub exact-short : (f : List ℕ) → gotOf (fixedOf w lo hi f) .wrong ≡ 0
+      → length (printFixed w (gotOf (fixedOf w lo hi f) .value)) ≤ length f
   exact-short = told-short (fixedOf w lo hi) (printFixed w) lo hi fixed-long
 
 -- No width is more than a number needs.
@@ -66,7 +69,8 @@ unfolding plainText
 plain-least n k a b h = rw (length-fixed (widthOf n) n) (width-least n k a b h)
 
 -- The thousandths, by how many digits they were read from.
-fraction-cases : (m : ℕ) → (length (fractionText m) ≤ 4) × ((m % 10 ≡ 0 → length (fractionText m) ≤ 3) × (m % 100 ≡ 0 → length (fractionText m) ≤ 2))
+fraction-cases : (m : ℕ) → (length (fractionText m) ≤ 4)
+    × ((m % 10 ≡ 0 → length (fractionText m) ≤ 3) × (m % 100 ≡ 0 → length (fractionText m) ≤ 2))
 unfolding fractionText
 fraction-cases m = go (eqb m 0) (eqb (m % 100) 0) (eqb (m % 10) 0) refl refl
   where
@@ -124,20 +128,29 @@ shortest (pointed {k} {n} {j} {m} a b h c d i) =
     let q : length (fractionText ((n * 1000 + m * 10 ^ (3 - j)) % 1000)) ≤ suc j = rw r (t .1) in
     record {
       below = omega (arith, million n k b h, t .0);
-      short = rw (number-length (n * 1000 + m * 10 ^ (3 - j)), length-append (printFixed k n) (46 ∷ printFixed j m), length-fixed k n, length-fixed j m) (omega (arith, p, q));
+      short = rw (
+        number-length (n * 1000 + m * 10 ^ (3 - j)),
+        length-append (printFixed k n) (46 ∷ printFixed j m),
+        length-fixed k n,
+        length-fixed j m,
+      ) (omega (arith, p, q));
     }
 
-pub number-in : (f : List ℕ) → maybeOf f (numberOf f) .wrong ≡ 0 → rangeWrong 0 999999999 (maybeOf f (numberOf f) .there) (maybeOf f (numberOf f) .value) ≡ 0
+pub number-in : (f : List ℕ) → maybeOf f (numberOf f) .wrong ≡ 0
+    → rangeWrong 0 999999999 (maybeOf f (numberOf f) .there) (maybeOf f (numberOf f) .value) ≡ 0
 number-in = maybe-in numberOf numberText 0 999999999 (λ f v e. (omega arith, shortest (number-is f v e) .below))
 
-pub number-short : (f : List ℕ) → maybeOf f (numberOf f) .wrong ≡ 0 → length (ifThere (maybeOf f (numberOf f) .there) (numberText (maybeOf f (numberOf f) .value))) ≤ length f
+pub number-short : (f : List ℕ) → maybeOf f (numberOf f) .wrong ≡ 0
+    → length (ifThere (maybeOf f (numberOf f) .there) (numberText (maybeOf f (numberOf f) .value))) ≤ length f
 number-short = maybe-short numberOf numberText 0 999999999 (λ f v e. shortest (number-is f v e) .short)
 
 module _ (hi : ℕ) where
-  pub below-in : (f : List ℕ) → maybeOf f (belowOf (hi + 1) f) .wrong ≡ 0 → rangeWrong 0 hi (maybeOf f (belowOf (hi + 1) f) .there) (maybeOf f (belowOf (hi + 1) f) .value) ≡ 0
+  pub below-in : (f : List ℕ) → maybeOf f (belowOf (hi + 1) f) .wrong ≡ 0
+      → rangeWrong 0 hi (maybeOf f (belowOf (hi + 1) f) .there) (maybeOf f (belowOf (hi + 1) f) .value) ≡ 0
   below-in = maybe-in (belowOf (hi + 1)) numberText 0 hi (λ f v e. let b = below-is (hi + 1) f v e in (omega arith, omega (arith, b .1)))
 
-  pub below-short : (f : List ℕ) → maybeOf f (belowOf (hi + 1) f) .wrong ≡ 0 → length (ifThere (maybeOf f (belowOf (hi + 1) f) .there) (numberText (maybeOf f (belowOf (hi + 1) f) .value))) ≤ length f
+  pub below-short : (f : List ℕ) → maybeOf f (belowOf (hi + 1) f) .wrong ≡ 0
+      → length (ifThere (maybeOf f (belowOf (hi + 1) f) .there) (numberText (maybeOf f (belowOf (hi + 1) f) .value))) ≤ length f
   below-short = maybe-short (belowOf (hi + 1)) numberText 0 hi (λ f v e. shortest (below-is (hi + 1) f v e .0) .short)
 
 signed-long : (v : ℕ) → length (heightText (signed true v)) ≤ suc (length (numberText v))
@@ -148,8 +161,10 @@ height-shortest : {f : List ℕ} {z : ℤ} → WrittenHeight f z → (natAbs z �
 height-shortest (plain w) = let s = shortest w in (s .below, s .short)
 height-shortest (minus {f} {v} w) = let s = shortest w in (rw (signed-size v) (s .below), omega (arith, signed-long v, s .short))
 
-pub height-in : (f : List ℕ) → maybeIntOf f (heightOf f) .wrong ≡ 0 → signedWrong 999999999 (maybeIntOf f (heightOf f) .there) (maybeIntOf f (heightOf f) .value) ≡ 0
+pub height-in : (f : List ℕ) → maybeIntOf f (heightOf f) .wrong ≡ 0
+    → signedWrong 999999999 (maybeIntOf f (heightOf f) .there) (maybeIntOf f (heightOf f) .value) ≡ 0
 height-in = maybe-int-in heightOf heightText 999999999 (λ f z e. height-shortest (height-is f z e) .0)
 
-pub height-short : (f : List ℕ) → maybeIntOf f (heightOf f) .wrong ≡ 0 → length (ifThere (maybeIntOf f (heightOf f) .there) (heightText (maybeIntOf f (heightOf f) .value))) ≤ length f
+pub height-short : (f : List ℕ) → maybeIntOf f (heightOf f) .wrong ≡ 0
+    → length (ifThere (maybeIntOf f (heightOf f) .there) (heightText (maybeIntOf f (heightOf f) .value))) ≤ length f
 height-short = maybe-int-short heightOf heightText 999999999 (λ f z e. height-shortest (height-is f z e) .1)

@@ -32,12 +32,16 @@ number-written v h = go (eqb (v % 1000) 0) refl
     tens false e = at 3 (v % 1000) (lit≤ tt) (lit≤ tt) (omega arith) (omega arith)
 
     hundreds : (t : Bool) → eqb (v % 1000 % 100) 0 ≡ t
-        → Written (printFixed (widthOf (v / 1000)) (v / 1000) ++ (46 ∷ cond t (printFixed 1 (v % 1000 / 100)) (cond (eqb (v % 1000 % 10) 0) (printFixed 2 (v % 1000 / 10)) (printFixed 3 (v % 1000))))) v
+        → Written (printFixed (widthOf (v / 1000)) (v / 1000)
+        ++ (46 ∷ cond t (printFixed 1 (v % 1000 / 100))
+        (cond (eqb (v % 1000 % 10) 0) (printFixed 2 (v % 1000 / 10)) (printFixed 3 (v % 1000))))) v
     hundreds true e = at 1 (v % 1000 / 100) (lit≤ tt) (lit≤ tt) (omega arith) (omega (arith, eqb-true (v % 1000 % 100) 0 e))
     hundreds false e = tens (eqb (v % 1000 % 10) 0) refl
 
     go : (t : Bool) → eqb (v % 1000) 0 ≡ t
-        → Written (printFixed (widthOf (v / 1000)) (v / 1000) ++ cond t [] (46 ∷ cond (eqb (v % 1000 % 100) 0) (printFixed 1 (v % 1000 / 100)) (cond (eqb (v % 1000 % 10) 0) (printFixed 2 (v % 1000 / 10)) (printFixed 3 (v % 1000))))) v
+        → Written (printFixed (widthOf (v / 1000)) (v / 1000)
+        ++ cond t [] (46 ∷ cond (eqb (v % 1000 % 100) 0) (printFixed 1 (v % 1000 / 100))
+        (cond (eqb (v % 1000 % 10) 0) (printFixed 2 (v % 1000 / 10)) (printFixed 3 (v % 1000))))) v
     go true e =
         let q : v / 1000 * 1000 ≡ v = omega (arith, eqb-true (v % 1000) 0 e) in
         rw (append-nil (printFixed (widthOf (v / 1000)) (v / 1000)))

@@ -32,7 +32,8 @@ joined-le limit (some d) none p v e = nothing v e
 joined-le limit (some d) (some m) none v e = nothing v e
 joined-le limit (some d) (some m) (some p) v e =
     let t = through _ _ _ e in
-    rw (Option·some-injective (d * 600000 + m * 10000 + p) v (t .1)) at (leb-true (d * 600000 + m * 10000 + p) limit (and-right (ltb m 60) _ (t .0)))
+    rw (Option·some-injective (d * 600000 + m * 10000 + p) v (t .1)) at
+    (leb-true (d * 600000 + m * 10000 + p) limit (and-right (ltb m 60) _ (t .0)))
 
 -- An angle is at most its limit.
 pub angle-le : (w limit : ℕ) (f : List ℕ) (v : ℕ) → angleOf w limit f ≡ some v → v ≤ limit
@@ -88,7 +89,8 @@ both-size k l a o h i =
     let last = pick (eqb (o .wrong) 0) (record { wrong = 0; there = a .there; lat = a .value; lon = o .value }) (refusedAt 4) in
     chosen-place k l (eqb (a .wrong) 0) (pick differ (refusedAt 3) last) (refusedAt (a .wrong))
     (chosen-place k l differ (refusedAt 3) last (omega arith, omega arith)
-    (chosen-place k l (eqb (o .wrong) 0) (record { wrong = 0; there = a .there; lat = a .value; lon = o .value }) (refusedAt 4) (h, i) (omega arith, omega arith)))
+    (chosen-place k l (eqb (o .wrong) 0) (record { wrong = 0; there = a .there; lat = a .value; lon = o .value }) (refusedAt 4) (h, i)
+    (omega arith, omega arith)))
     (omega arith, omega arith)
 
 -- A latitude is at most 90 degrees north or south, and a longitude at most 180 degrees east or west.
@@ -96,9 +98,11 @@ pub position-range : (lat ns lon ew : List ℕ)
     → (natAbs (positionForm lat ns lon ew .lat) ≤ 54000000) × (natAbs (positionForm lat ns lon ew .lon) ≤ 108000000)
 unfolding positionForm latitudeOf longitudeOf
 position-range lat ns lon ew =
-    both-size 54000000 108000000 (sidedOf (ascii "N") (ascii "S") lat ns (angleOf 2 54000000 lat)) (sidedOf (ascii "E") (ascii "W") lon ew (angleOf 3 108000000 lon))
+    both-size 54000000 108000000 (sidedOf (ascii "N") (ascii "S") lat ns (angleOf 2 54000000 lat))
+    (sidedOf (ascii "E") (ascii "W") lon ew (angleOf 3 108000000 lon))
     (sided-size 54000000 (ascii "N") (ascii "S") lat ns (angleOf 2 54000000 lat) (angle-small 54000000 2 lat (angleOf 2 54000000 lat) refl))
-    (sided-size 108000000 (ascii "E") (ascii "W") lon ew (angleOf 3 108000000 lon) (angle-small 108000000 3 lon (angleOf 3 108000000 lon) refl))
+    (sided-size 108000000 (ascii "E") (ascii "W") lon ew (angleOf 3 108000000 lon)
+    (angle-small 108000000 3 lon (angleOf 3 108000000 lon) refl))
 
 below-small : (f : List ℕ) (o : Option ℕ) → belowOf 180000 f ≡ o → Under 180000 o
 below-small f (some v) e = below-lt 180000 f v e .1
@@ -109,7 +113,9 @@ pub variation-range : (f u : List ℕ) → natAbs (variationForm f u .value) < 1
 unfolding variationForm
 variation-range f u =
     let h : natAbs (variationForm f u .value) ≤ 179999 =
-    chosen 179999 (eqb (length f) 0) (pick (eqb (length u) 0 || (same u (ascii "E") || same u (ascii "W"))) missingInt (wrongInt 2 false)) (letteredOf (ascii "E") (ascii "W") u (belowOf 180000 f))
-    (chosen 179999 (eqb (length u) 0 || (same u (ascii "E") || same u (ascii "W"))) missingInt (wrongInt 2 false) (omega arith) (omega arith))
+    chosen 179999 (eqb (length f) 0) (pick (eqb (length u) 0 || (same u (ascii "E") || same u (ascii "W"))) missingInt (wrongInt 2 false))
+    (letteredOf (ascii "E") (ascii "W") u (belowOf 180000 f))
+    (chosen 179999 (eqb (length u) 0 || (same u (ascii "E") || same u (ascii "W"))) missingInt (wrongInt 2 false) (omega arith)
+    (omega arith))
     (lettered-size 179999 (ascii "E") (ascii "W") u (belowOf 180000 f) (below-small f (belowOf 180000 f) refl)) in
     omega arith

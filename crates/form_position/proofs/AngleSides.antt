@@ -1,4 +1,5 @@
--- Angles from both sides: an angle is its value split into degrees, minutes and parts, each printed in its width. The three printed parts and
+-- Angles from both sides: an angle is its value split into degrees, minutes and parts, each printed in its width. The three printed parts
+-- and
 -- the point are cut out of the field again at their places.
 use Prim.Native.Nat.{_%_, _*_, _+_, _/_, _<_, _^_, _≤_, ℕ}
 use mathlib.Core.Bool.{_&&_}
@@ -87,7 +88,8 @@ angle-is w limit f v e =
     let t = through (eqb (length f) (w + 7) && eqb (getD f (w + 2) 0) 46)
     (joinedOf limit (digitsOf w w (take w f)) (digitsOf 2 2 (take 2 (drop w f))) (digitsOf 4 4 (drop (w + 3) f))) v e in
     let j = joined-is limit (digitsOf w w (take w f)) (digitsOf 2 2 (take 2 (drop w f))) (digitsOf 4 4 (drop (w + 3) f)) v (t .1) in
-    let c = cut w f (eqb-true (length f) (w + 7) (and-left _ _ (t .0))) (eqb-true (getD f (w + 2) 0) 46 (and-right (eqb (length f) (w + 7)) _ (t .0))) in
+    let c = cut w f (eqb-true (length f) (w + 7) (and-left _ _ (t .0)))
+    (eqb-true (getD f (w + 2) 0) 46 (and-right (eqb (length f) (w + 7)) _ (t .0))) in
     let a = fixed-are w (take w f) (j .d) (j .degrees) in
     let b = fixed-are 2 (take 2 (drop w f)) (j .m) (j .minutes) in
     let k = fixed-are 4 (drop (w + 3) f) (j .p) (j .parts) in

@@ -22,7 +22,8 @@ side-is : (plus minus : List ℕ) (z : ℤ) → Lettered plus minus (natAbs z) (
 side-is plus minus (pos n) = first
 side-is plus minus (negsuc n) = second
 
-place-parts : (p : Place) → placeWrong p ≡ 0 → (signedWrong 54000000 (p .there) (p .lat) ≡ 0) × (signedWrong 108000000 (p .there) (p .lon) ≡ 0)
+place-parts : (p : Place) → placeWrong p ≡ 0 → (signedWrong 54000000 (p .there) (p .lat) ≡ 0)
+    × (signedWrong 108000000 (p .there) (p .lon) ≡ 0)
 unfolding placeWrong
 place-parts p e =
     let a = first-zero (signedWrong 54000000 (p .there) (p .lat)) (λ q. omega arith) e in
@@ -34,7 +35,8 @@ pub place-back : (p : Place) → placeWrong p ≡ 0
 place-back p e = let a = place-parts p e in go (p .there) refl (a .0) (a .1)
   where
     go : (t : Bool) → p .there ≡ t → signedWrong 54000000 (p .there) (p .lat) ≡ 0 → signedWrong 108000000 (p .there) (p .lon) ≡ 0
-        → positionForm (latField p) (nsField p) (lonField p) (ewField p) ≡ record { wrong = 0; there = p .there; lat = p .lat; lon = p .lon }
+        → positionForm (latField p) (nsField p) (lonField p)
+        (ewField p) ≡ record { wrong = 0; there = p .there; lat = p .lat; lon = p .lon }
     go true q x y =
         let a = signed-in 54000000 (p .lat) (rw q at x) in
         let o = signed-in 108000000 (p .lon) (rw q at y) in
@@ -48,8 +50,10 @@ pub variation-back : (n : Signed) → signedWrong 179999 (n .there) (n .value) �
     → variationForm (variationField n) (variationSide n) ≡ theGotInt (n .there) (n .value)
 variation-back n e = go (n .there) refl e
   where
-    go : (t : Bool) → n .there ≡ t → signedWrong 179999 (n .there) (n .value) ≡ 0 → variationForm (variationField n) (variationSide n) ≡ theGotInt (n .there) (n .value)
+    go : (t : Bool) → n .there ≡ t → signedWrong 179999 (n .there) (n .value) ≡ 0
+        → variationForm (variationField n) (variationSide n) ≡ theGotInt (n .there) (n .value)
     go true q x =
         let a = signed-in 179999 (n .value) (rw q at x) in
-        rw q (variation-reads (varied (number-written (natAbs (n .value)) (omega arith)) (omega arith) (side-is (ascii "E") (ascii "W") (n .value))))
+        rw q (variation-reads (varied (number-written (natAbs (n .value)) (omega arith)) (omega arith)
+        (side-is (ascii "E") (ascii "W") (n .value))))
     go false q x = let a = signed-none 179999 (n .value) (rw q at x) in rw (q, a) (variation-empty .0)

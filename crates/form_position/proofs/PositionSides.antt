@@ -51,7 +51,8 @@ both-is a o e = go (eqb (a .wrong) 0) refl e
     whole : Position
     whole = record { wrong = 0; there = a .there; lat = a .value; lon = o .value }
 
-    last : (t : Bool) → a .wrong ≡ 0 → a .there ≡ o .there → eqb (o .wrong) 0 ≡ t → (pick t whole (refusedAt 4)) .wrong ≡ 0 → Both a o (pick t whole (refusedAt 4))
+    last : (t : Bool) → a .wrong ≡ 0 → a .there ≡ o .there → eqb (o .wrong) 0 ≡ t → (pick t whole (refusedAt 4)) .wrong ≡ 0
+        → Both a o (pick t whole (refusedAt 4))
     last true l h d q = record { left = l; right = eqb-true (o .wrong) 0 d; alike = h; whole = refl }
     last false l h d q = let z : ⊥ = omega arith in absurd z
 
@@ -62,8 +63,10 @@ both-is a o e = go (eqb (a .wrong) 0) refl e
     middle false l d q = last (eqb (o .wrong) 0) l (alike-there (a .there) (o .there) (eqb (o .wrong) 1) d) refl q
 
     go : (t : Bool) → eqb (a .wrong) 0 ≡ t
-        → (pick t (pick ((a .there && not (o .there)) || ((not (a .there) && o .there) || eqb (o .wrong) 1)) (refusedAt 3) (pick (eqb (o .wrong) 0) whole (refusedAt 4))) (refusedAt (a .wrong))) .wrong ≡ 0
-        → Both a o (pick t (pick ((a .there && not (o .there)) || ((not (a .there) && o .there) || eqb (o .wrong) 1)) (refusedAt 3) (pick (eqb (o .wrong) 0) whole (refusedAt 4))) (refusedAt (a .wrong)))
+        → (pick t (pick ((a .there && not (o .there)) || ((not (a .there) && o .there) || eqb (o .wrong) 1)) (refusedAt 3)
+        (pick (eqb (o .wrong) 0) whole (refusedAt 4))) (refusedAt (a .wrong))) .wrong ≡ 0
+        → Both a o (pick t (pick ((a .there && not (o .there)) || ((not (a .there) && o .there) || eqb (o .wrong) 1)) (refusedAt 3)
+        (pick (eqb (o .wrong) 0) whole (refusedAt 4))) (refusedAt (a .wrong)))
     go true d q = middle _ (eqb-true (a .wrong) 0 d) refl q
     go false d q = absurd (eqb-false (a .wrong) 0 d q)
 
@@ -73,7 +76,8 @@ record Value (plus minus u : List ℕ) (o : Option ℕ) (z : ℤ) : Type 0 where
   read : o ≡ some v
   letter : Lettered plus minus v u z
 
-lettered-is : (plus minus u : List ℕ) (o : Option ℕ) → letteredOf plus minus u o .wrong ≡ 0 → Value plus minus u o (letteredOf plus minus u o .value)
+lettered-is : (plus minus u : List ℕ) (o : Option ℕ) → letteredOf plus minus u o .wrong ≡ 0
+    → Value plus minus u o (letteredOf plus minus u o .value)
 unfolding letteredOf
 lettered-is plus minus u none e = let z : ⊥ = omega arith in absurd z
 lettered-is plus minus u (some v) e = go (same u plus) (same u minus) refl refl e
@@ -112,7 +116,8 @@ there-is plus minus u (some v) q = which (same u plus || same u minus) q
 -- A half of a position.
 module _ (plus minus f u : List ℕ) (o : Option ℕ) where
   -- It is there: read, with one of its letters.
-  half-is : sidedOf plus minus f u o .wrong ≡ 0 → sidedOf plus minus f u o .there ≡ true → Value plus minus u o (sidedOf plus minus f u o .value)
+  half-is : sidedOf plus minus f u o .wrong ≡ 0 → sidedOf plus minus f u o .there ≡ true
+      → Value plus minus u o (sidedOf plus minus f u o .value)
   unfolding sidedOf
   half-is e h = go (eqb (length f) 0) (eqb (length u) 0) e h
     where
@@ -140,11 +145,13 @@ pub data Placed (plus minus : List ℕ) (w limit : ℕ) : List ℕ → List ℕ 
   placed : {v : ℕ} {u : List ℕ} {z : ℤ} → v ≤ limit → Lettered plus minus v u z → Placed plus minus w limit (angleText w v) u z
 
 half-placed : (plus minus : List ℕ) (w limit : ℕ) (f u : List ℕ) → sidedOf plus minus f u (angleOf w limit f) .wrong ≡ 0
-    → sidedOf plus minus f u (angleOf w limit f) .there ≡ true → Placed plus minus w limit f u (sidedOf plus minus f u (angleOf w limit f) .value)
+    → sidedOf plus minus f u (angleOf w limit f) .there ≡ true
+    → Placed plus minus w limit f u (sidedOf plus minus f u (angleOf w limit f) .value)
 half-placed plus minus w limit f u e h =
     let r = half-is plus minus f u (angleOf w limit f) e h in
     let a = angle-is w limit f (r .v) (r .read) in
-    subst (λ (l : List ℕ). Placed plus minus w limit l u (sidedOf plus minus f u (angleOf w limit f) .value)) (sym (a .0)) (placed (a .1) (r .letter))
+    subst (λ (l : List ℕ). Placed plus minus w limit l u (sidedOf plus minus f u (angleOf w limit f) .value)) (sym (a .0))
+    (placed (a .1) (r .letter))
 
 text-length : (w v : ℕ) → length (angleText w v) ≡ w + 7
 text-length w v = simp (length-append, length-fixed) (omega arith)
@@ -181,8 +188,10 @@ module _ (lat ns lon ew : List ℕ) where
   position-is e h =
       let b = halves e in
       let t : north .there ≡ true = sym (ap (λ (p : Position). p .there) (b .whole)) ∙ h in (
-        subst (λ (z : ℤ). Latitude lat ns z) (sym (ap (λ (p : Position). p .lat) (b .whole))) (half-placed (ascii "N") (ascii "S") 2 54000000 lat ns (b .left) t),
-        subst (λ (z : ℤ). Longitude lon ew z) (sym (ap (λ (p : Position). p .lon) (b .whole))) (half-placed (ascii "E") (ascii "W") 3 108000000 lon ew (b .right) (sym (b .alike) ∙ t)),
+        subst (λ (z : ℤ). Latitude lat ns z) (sym (ap (λ (p : Position). p .lat) (b .whole)))
+            (half-placed (ascii "N") (ascii "S") 2 54000000 lat ns (b .left) t),
+        subst (λ (z : ℤ). Longitude lon ew z) (sym (ap (λ (p : Position). p .lon) (b .whole)))
+            (half-placed (ascii "E") (ascii "W") 3 108000000 lon ew (b .right) (sym (b .alike) ∙ t)),
       )
 
   -- A position that is good and not there is four empty fields.
@@ -201,7 +210,11 @@ pub position-reads : {lat ns lon ew : List ℕ} {a o : ℤ} → Latitude lat ns 
     → positionForm lat ns lon ew ≡ record { wrong = 0; there = true; lat = a; lon = o }
 unfolding positionForm latitudeOf longitudeOf bothOf same
 position-reads {lat} {ns} {lon} {ew} {a} {o} p q =
-    rw (half-reads (ascii "N") (ascii "S") 2 54000000 (lit≤ tt) (lit< tt) refl p, half-reads (ascii "E") (ascii "W") 3 108000000 (lit≤ tt) (lit< tt) refl q)
+    rw (
+      half-reads (ascii "N") (ascii "S") 2 54000000 (lit≤ tt) (lit< tt) refl p,
+      half-reads (ascii "E") (ascii "W") 3 108000000 (lit≤ tt)
+          (lit< tt) refl q,
+    )
 
 -- And four empty fields are a missing position.
 pub position-empty : positionForm [] [] [] [] ≡ record { wrong = 0; there = false; lat = pos 0; lon = pos 0 }
@@ -221,7 +234,8 @@ module _ (f u : List ℕ) where
   unfolding variationForm
   variation-is e h = go (eqb (length f) 0) Loose e h
     where
-      go : (s t : Bool) → (pick s (pick t missingInt (wrongInt 2 false)) (letteredOf (ascii "E") (ascii "W") u (belowOf 180000 f))) .wrong ≡ 0
+      go : (s t : Bool) → (pick s (pick t missingInt (wrongInt 2 false))
+          (letteredOf (ascii "E") (ascii "W") u (belowOf 180000 f))) .wrong ≡ 0
           → (pick s (pick t missingInt (wrongInt 2 false)) (letteredOf (ascii "E") (ascii "W") u (belowOf 180000 f))) .there ≡ true
           → Varied f u ((pick s (pick t missingInt (wrongInt 2 false)) (letteredOf (ascii "E") (ascii "W") u (belowOf 180000 f))) .value)
       go true true p q = absurd (true-false q refl)
@@ -232,13 +246,16 @@ module _ (f u : List ℕ) where
           varied (w .0) (w .1) (r .letter)
 
   -- A variation that is good and not there is an empty field, and another or a letter.
-  pub variation-none : variationForm f u .wrong ≡ 0 → variationForm f u .there ≡ false → (f ≡ []) × ((u ≡ []) ⊎ ((u ≡ ascii "E") ⊎ (u ≡ ascii "W")))
+  pub variation-none : variationForm f u .wrong ≡ 0 → variationForm f u .there ≡ false → (f ≡ [])
+      × ((u ≡ []) ⊎ ((u ≡ ascii "E") ⊎ (u ≡ ascii "W")))
   unfolding variationForm
   variation-none e h = go (eqb (length f) 0) (eqb (length u) 0) (same u (ascii "E")) (same u (ascii "W")) refl refl refl refl e h
     where
       go : (s t x y : Bool) → eqb (length f) 0 ≡ s → eqb (length u) 0 ≡ t → same u (ascii "E") ≡ x → same u (ascii "W") ≡ y
-          → (pick s (pick (t || (x || y)) missingInt (wrongInt 2 false)) (letteredOf (ascii "E") (ascii "W") u (belowOf 180000 f))) .wrong ≡ 0
-          → (pick s (pick (t || (x || y)) missingInt (wrongInt 2 false)) (letteredOf (ascii "E") (ascii "W") u (belowOf 180000 f))) .there ≡ false
+          → (pick s (pick (t || (x || y)) missingInt (wrongInt 2 false))
+          (letteredOf (ascii "E") (ascii "W") u (belowOf 180000 f))) .wrong ≡ 0
+          → (pick s (pick (t || (x || y)) missingInt (wrongInt 2 false))
+          (letteredOf (ascii "E") (ascii "W") u (belowOf 180000 f))) .there ≡ false
           → (f ≡ []) × ((u ≡ []) ⊎ ((u ≡ ascii "E") ⊎ (u ≡ ascii "W")))
       go true true x y a b c d p q = (empty f a, inl (empty u b))
       go true false true y a b c d p q = (empty f a, inr (inl (same-true u (ascii "E") c)))
@@ -253,6 +270,7 @@ variation-reads {f} {u} {z} (varied {v = v} w h l) =
     rw (ne-eqb (length f) 0 (not-empty w), below-reads 180000 w h) (letter-reads (ascii "E") (ascii "W") u v z refl l)
 
 -- And each of the three is a missing variation.
-pub variation-empty : (variationForm [] [] ≡ missingInt) × (variationForm [] (ascii "E") ≡ missingInt) × (variationForm [] (ascii "W") ≡ missingInt)
+pub variation-empty : (variationForm [] [] ≡ missingInt) × (variationForm [] (ascii "E") ≡ missingInt)
+    × (variationForm [] (ascii "W") ≡ missingInt)
 unfolding variationForm same
 variation-empty = (refl, refl, refl)

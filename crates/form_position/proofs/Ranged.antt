@@ -30,7 +30,8 @@ lettered-size : (plus minus : List ℕ) {v : ℕ} {u : List ℕ} {z : ℤ} → L
 lettered-size plus minus first = refl
 lettered-size plus minus {v} second = signed-size v
 
-lettered-one : (plus minus : List ℕ) {v : ℕ} {u : List ℕ} {z : ℤ} → length plus ≡ 1 → length minus ≡ 1 → Lettered plus minus v u z → length u ≡ 1
+lettered-one : (plus minus : List ℕ) {v : ℕ} {u : List ℕ} {z : ℤ} → length plus ≡ 1 → length minus ≡ 1 → Lettered plus minus v u z
+    → length u ≡ 1
 lettered-one plus minus p q first = p
 lettered-one plus minus p q second = q
 
@@ -42,7 +43,8 @@ record Half (w limit : ℕ) (f u : List ℕ) (z : ℤ) : Type 0 where
   long : length f ≡ w + 7
   letter : length u ≡ 1
 
-half : (plus minus : List ℕ) (w limit : ℕ) {f u : List ℕ} {z : ℤ} → length plus ≡ 1 → length minus ≡ 1 → Placed plus minus w limit f u z → Half w limit f u z
+half : (plus minus : List ℕ) (w limit : ℕ) {f u : List ℕ} {z : ℤ} → length plus ≡ 1 → length minus ≡ 1 → Placed plus minus w limit f u z
+    → Half w limit f u z
 half plus minus w limit p q (placed {v} i l) =
     record { within = rw (lettered-size plus minus l) i; long = angle-long w v; letter = lettered-one plus minus p q l }
 
@@ -67,7 +69,8 @@ module _ (lat ns lon ew : List ℕ) where
       let a = half (ascii "N") (ascii "S") 2 54000000 refl refl (s .0) in
       let o = half (ascii "E") (ascii "W") 3 108000000 refl refl (s .1) in
       record {
-        range = place-good (record { there = true; lat = P .lat; lon = P .lon }) (signed-good 54000000 (P .lat) (a .within)) (signed-good 108000000 (P .lon) (o .within));
+        range = place-good (record { there = true; lat = P .lat; lon = P .lon }) (signed-good 54000000 (P .lat) (a .within))
+            (signed-good 108000000 (P .lon) (o .within));
         lat-short = omega (arith, angle-long 2 (natAbs (P .lat)), a .long);
         ns-short = omega (arith, length-side (ascii "N") (ascii "S") (P .lat) 1 (lit≤ tt) (lit≤ tt), a .letter);
         lon-short = omega (arith, angle-long 3 (natAbs (P .lon)), o .long);
@@ -109,7 +112,11 @@ module _ (f u : List ℕ) where
       record {
         range = signed-good 179999 z (omega (arith, n, h));
         number-short = rw n (s .short);
-        side-short = omega (arith, length-side (ascii "E") (ascii "W") z 1 (lit≤ tt) (lit≤ tt), lettered-one (ascii "E") (ascii "W") refl refl l);
+        side-short = omega (
+          arith,
+          length-side (ascii "E") (ascii "W") z 1 (lit≤ tt) (lit≤ tt),
+          lettered-one (ascii "E") (ascii "W") refl refl l,
+        );
       }
 
   missing-read : VariationRead f u missingInt
@@ -123,8 +130,10 @@ module _ (f u : List ℕ) where
   pub variation-read : G .wrong ≡ 0 → VariationRead f u G
   variation-read e = go (G .there) refl
     where
-      same : (g : GotInt) → g .wrong ≡ 0 → g .there ≡ true → VariationRead f u (record { wrong = 0; there = true; value = g .value }) → VariationRead f u g
-      same g p q r = subst (λ (t : Bool). VariationRead f u (record { wrong = g .wrong; there = t; value = g .value })) (sym q) (subst (λ (w : ℕ). VariationRead f u (record { wrong = w; there = true; value = g .value })) (sym p) r)
+      same : (g : GotInt) → g .wrong ≡ 0 → g .there ≡ true → VariationRead f u (record { wrong = 0; there = true; value = g .value })
+          → VariationRead f u g
+      same g p q r = subst (λ (t : Bool). VariationRead f u (record { wrong = g .wrong; there = t; value = g .value })) (sym q)
+          (subst (λ (w : ℕ). VariationRead f u (record { wrong = w; there = true; value = g .value })) (sym p) r)
 
       go : (t : Bool) → G .there ≡ t → VariationRead f u G
       go true q = same G e q (varied-read (variation-is f u e q))

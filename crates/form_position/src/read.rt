@@ -169,7 +169,8 @@ pub fn variation(f: &[u8], u: &[u8]) -> GotInt
 
 // Latitude with N or S and longitude with E or W, all four or none.
 pub fn position_in(s: &[u8], p: &[usize], k1: usize, k2: usize, k3: usize, k4: usize) -> Position
-    ensures { λ r. ⌜ r ≡ positionForm (fieldIn (now (p .entry)) k1 (now (s .entry))) (fieldIn (now (p .entry)) k2 (now (s .entry))) (fieldIn (now (p .entry)) k3 (now (s .entry))) (fieldIn (now (p .entry)) k4 (now (s .entry))) ⌝ }
+    ensures { λ r. ⌜ r ≡ positionForm (fieldIn (now (p .entry)) k1 (now (s .entry))) (fieldIn (now (p .entry)) k2 (now (s .entry)))
+        (fieldIn (now (p .entry)) k3 (now (s .entry))) (fieldIn (now (p .entry)) k4 (now (s .entry))) ⌝ }
 {
     position(
         fields::field_in(s, p, k1),

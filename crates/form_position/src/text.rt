@@ -13,7 +13,8 @@ ghost use Rattle.form_position.specs.Values.{ewField, latField, lonField
 
 // `50.6111`: the minutes of an angle.
 fn put_arc(out: &mut [u8], at: usize, z: i32) -> usize
-    ensures { λ r. ⌜ Puts (held at (now (out .entry))) (printFixed 2 (natAbs z / 10000 % 60) ++ (46 ∷ printFixed 4 (natAbs z % 10000))) (held r (now (out .exit))) ⌝ }
+    ensures { λ r. ⌜ Puts (held at (now (out .entry))) (printFixed 2 (natAbs z / 10000 % 60) ++ (46 ∷ printFixed 4 (natAbs z % 10000)))
+        (held r (now (out .exit))) ⌝ }
 {
     let arc = split::arc(z);
     let a0 = put::put_two(out, at, arc / 10000);
@@ -68,7 +69,8 @@ fn longitude(out: &mut [u8], at: usize, there: bool, z: i32) -> usize
 
 // The letter of a side; zero is on the first.
 fn side(out: &mut [u8], at: usize, there: bool, z: i32, plus: u8, minus: u8) -> usize
-    ensures { λ r. ⌜ PutsFields (held at (now (out .entry))) (ifThere there (sideText (plus ∷ []) (minus ∷ []) z) ∷ []) (held r (now (out .exit))) ⌝ }
+    ensures { λ r. ⌜ PutsFields (held at (now (out .entry))) (ifThere there (sideText (plus ∷ []) (minus ∷ []) z) ∷ [])
+        (held r (now (out .exit))) ⌝ }
 {
     let a = put::put(out, at, 44);
     if there {
@@ -79,7 +81,8 @@ fn side(out: &mut [u8], at: usize, there: bool, z: i32, plus: u8, minus: u8) -> 
 
 // `5550.6111,N,03732.2534,E`: a position.
 pub fn place(out: &mut [u8], at: usize, p: Place) -> usize
-    ensures { λ r. ⌜ PutsFields (held at (now (out .entry))) (latField p ∷ nsField p ∷ lonField p ∷ ewField p ∷ []) (held r (now (out .exit))) ⌝ }
+    ensures { λ r. ⌜ PutsFields (held at (now (out .entry))) (latField p ∷ nsField p ∷ lonField p ∷ ewField p ∷ [])
+        (held r (now (out .exit))) ⌝ }
 {
     let lat = p.lat;
     let lon = p.lon;

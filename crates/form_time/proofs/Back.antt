@@ -55,9 +55,15 @@ clock-reads v l h =
     })
 
 clock-filled : (v : ℕ) → 0 ≤ v → v ≤ 8639999 → length (clockText v) ≡ 0 → ⊥
-clock-filled v l h e = omega (arith, length-append (printFixed 2 (v / 360000)) (printFixed 2 (v / 6000 % 60) ++ (printFixed 2 (v / 100 % 60) ++ (46 ∷ printFixed 2 (v % 100)))), length-fixed 2 (v / 360000))
+clock-filled v l h e = omega (
+  arith,
+  length-append (printFixed 2 (v / 360000))
+      (printFixed 2 (v / 6000 % 60) ++ (printFixed 2 (v / 100 % 60) ++ (46 ∷ printFixed 2 (v % 100)))),
+  length-fixed 2 (v / 360000),
+)
 
-pub time-back : (there : Bool) (v : ℕ) → rangeWrong 0 8639999 there v ≡ 0 → maybeOf (ifThere there (clockText v)) (timeOf (ifThere there (clockText v))) ≡ theGot there v
+pub time-back : (there : Bool) (v : ℕ) → rangeWrong 0 8639999 there v ≡ 0
+    → maybeOf (ifThere there (clockText v)) (timeOf (ifThere there (clockText v))) ≡ theGot there v
 time-back = maybe-back timeOf clockText 0 8639999 clock-reads clock-filled
 
 -- Time.
@@ -80,8 +86,10 @@ time-long f v e =
     let l : length f ≡ 9 = rw (t .text) (simp (length-append, length-fixed) refl) in
     omega (arith, l, clock-nine v)
 
-pub time-in : (f : List ℕ) → maybeOf f (timeOf f) .wrong ≡ 0 → rangeWrong 0 8639999 (maybeOf f (timeOf f) .there) (maybeOf f (timeOf f) .value) ≡ 0
+pub time-in : (f : List ℕ) → maybeOf f (timeOf f) .wrong ≡ 0
+    → rangeWrong 0 8639999 (maybeOf f (timeOf f) .there) (maybeOf f (timeOf f) .value) ≡ 0
 time-in = maybe-in timeOf clockText 0 8639999 time-is
 
-pub time-short : (f : List ℕ) → maybeOf f (timeOf f) .wrong ≡ 0 → length (ifThere (maybeOf f (timeOf f) .there) (clockText (maybeOf f (timeOf f) .value))) ≤ length f
+pub time-short : (f : List ℕ) → maybeOf f (timeOf f) .wrong ≡ 0
+    → length (ifThere (maybeOf f (timeOf f) .there) (clockText (maybeOf f (timeOf f) .value))) ≤ length f
 time-short = maybe-short timeOf clockText 0 8639999 time-long

@@ -45,8 +45,10 @@ clock-of : (f : List ℕ) (v : ℕ) → timeOf f ≡ some v
     → (length f ≡ 9) × ((getD f 6 0 ≡ 46) × Parts (pairAt 0 f) (pairAt 2 f) (pairAt 4 f) (pairAt 7 f) v)
 unfolding timeOf
 clock-of f v e =
-    let t = through _ (clockOf (pairAt 0 f) (pairAt 2 f) (pairAt 4 f) (pairAt 7 f)) v e in
-    (eqb-true (length f) 9 (and-left _ _ (t .0)), (eqb-true (getD f 6 0) 46 (and-right (eqb (length f) 9) _ (t .0)), parts _ _ _ _ v (t .1)))
+    let t = through _ (clockOf (pairAt 0 f) (pairAt 2 f) (pairAt 4 f) (pairAt 7 f)) v e in (
+      eqb-true (length f) 9 (and-left _ _ (t .0)),
+      (eqb-true (getD f 6 0) 46 (and-right (eqb (length f) 9) _ (t .0)), parts _ _ _ _ v (t .1)),
+    )
 
 in-day : (h m s : ℕ) → isTime h m s ≡ true → (h ≤ 23) × ((m ≤ 59) × (s ≤ 59))
 unfolding isTime

@@ -8,7 +8,8 @@ ghost use Rattle.form_time.specs.Time.{clockText};
 
 // `56.00`: seconds and hundredths of a second.
 fn put_seconds(out: &mut [u8], at: usize, v: u32) -> usize
-    ensures { λ r. ⌜ Puts (held at (now (out .entry))) (printFixed 2 (v / 100 % 60) ++ (46 ∷ printFixed 2 (v % 100))) (held r (now (out .exit))) ⌝ }
+    ensures { λ r. ⌜ Puts (held at (now (out .entry))) (printFixed 2 (v / 100 % 60) ++ (46 ∷ printFixed 2 (v % 100)))
+        (held r (now (out .exit))) ⌝ }
 {
     let a0 = put::put_two(out, at, v / 100 % 60);
     let a1 = put::put(out, a0, 46);

@@ -45,7 +45,8 @@ module _ (f : Written) (s o : List ℕ) where
           let q : ltb (length o) (length (asLine s)) ≡ true = lt-ltb (length o) (length (asLine s)) (omega (arith, line-length s)) in
           record { answers = rw (eq-eqb (f .no) 0 h, k, q); leaves = rw (eq-eqb (f .no) 0 h, k, q) }
 
-      pub line-out : {e : List ℕ} → length s + 6 ≤ length o → e ≡ asLine s ++ drop (length (asLine s)) o → Writes f s o (wrote (length s + 6)) e
+      pub line-out : {e : List ℕ} → length s + 6 ≤ length o → e ≡ asLine s ++ drop (length (asLine s)) o
+          → Writes f s o (wrote (length s + 6)) e
       unfolding writtenOf leftOf
       line-out j w =
           let q : ltb (length o) (length (asLine s)) ≡ false = le-ltb (length o) (length (asLine s)) (omega (arith, line-length s)) in

@@ -1,5 +1,6 @@
 -- Records from numbers: the record of a kind that has these numbers, after docs/LAYOUT.md, with the number of the talker in place 0 of a
--- talker's sentence. A kind that is none, or a talker that is none, is 3; fewer numbers than the kind has are 5; numbers past them are not looked at.
+-- talker's sentence. A kind that is none, or a talker that is none, is 3; fewer numbers than the kind has are 5; numbers past them are not
+-- looked at.
 use Prim.Native.Nat.{ℕ}
 use mathlib.Core.Bool.{_&&_}
 use mathlib.Core.List.{[], _∷_, List}
@@ -37,16 +38,35 @@ use Rattle.tonumbers.specs.Layout.{countOf}
 use Rattle.fromnumbers.specs.Values.{dateAt, entryAt, intAt, kmhAt, knotsAt, maybeAt, numberAt, placeAt, plainAt, signedAt, zoneAt}
 
 abbrev pub ggaAt : List ℕ → Gga
-ggaAt n = record { time = maybeAt n 1; place = placeAt n 3; quality = plainAt n 6; satellites = maybeAt n 7; hdop = numberAt n 9; altitude = signedAt n 11; geoid = signedAt n 13; age = numberAt n 15; station = maybeAt n 17 }
+ggaAt n = record {
+  time = maybeAt n 1;
+  place = placeAt n 3;
+  quality = plainAt n 6;
+  satellites = maybeAt n 7;
+  hdop = numberAt n 9;
+  altitude = signedAt n 11;
+  geoid = signedAt n 13;
+  age = numberAt n 15;
+  station = maybeAt n 17;
+}
 
 abbrev pub gllAt : List ℕ → Gll
 gllAt n = record { place = placeAt n 1; time = maybeAt n 4; status = plainAt n 6; mode = plainAt n 7 }
 
 abbrev pub twelveAt : List ℕ → List Maybe
-twelveAt n = maybeAt n 3 ∷ maybeAt n 5 ∷ maybeAt n 7 ∷ maybeAt n 9 ∷ maybeAt n 11 ∷ maybeAt n 13 ∷ maybeAt n 15 ∷ maybeAt n 17 ∷ maybeAt n 19 ∷ maybeAt n 21 ∷ maybeAt n 23 ∷ maybeAt n 25 ∷ []
+twelveAt n = maybeAt n 3 ∷ maybeAt n 5 ∷ maybeAt n 7 ∷ maybeAt n 9 ∷ maybeAt n 11 ∷ maybeAt n 13 ∷ maybeAt n 15 ∷ maybeAt n 17 ∷ maybeAt
+    n 19 ∷ maybeAt n 21 ∷ maybeAt n 23 ∷ maybeAt n 25 ∷ []
 
 abbrev pub gsaAt : List ℕ → Gsa
-gsaAt n = record { selection = plainAt n 1; fix = plainAt n 2; satellites = twelveAt n; pdop = numberAt n 27; hdop = numberAt n 29; vdop = numberAt n 31 }
+gsaAt n = record {
+  selection = plainAt n 1;
+  fix = plainAt n 2;
+  satellites = twelveAt n;
+  pdop = numberAt n 27;
+  hdop = numberAt n 29;
+  vdop
+      = numberAt n 31;
+}
 
 abbrev pub fourAt : List ℕ → List Entry
 fourAt n = entryAt n 5 6 8 10 ∷ entryAt n 12 13 15 17 ∷ entryAt n 19 20 22 24 ∷ entryAt n 26 27 29 31 ∷ []
@@ -55,7 +75,17 @@ abbrev pub gsvAt : List ℕ → Gsv
 gsvAt n = record { lines = plainAt n 1; line = plainAt n 2; satellites = plainAt n 3; count = plainAt n 4; entries = fourAt n }
 
 abbrev pub rmcAt : List ℕ → Rmc
-rmcAt n = record { time = maybeAt n 1; status = plainAt n 3; place = placeAt n 4; speed = knotsAt n 7; course = numberAt n 9; date = dateAt n 11; variation = signedAt n 15; mode = plainAt n 17 }
+rmcAt n = record {
+  time = maybeAt n 1;
+  status = plainAt n 3;
+  place = placeAt n 4;
+  speed = knotsAt n 7;
+  course = numberAt n 9;
+  date =
+      dateAt n 11;
+  variation = signedAt n 15;
+  mode = plainAt n 17;
+}
 
 abbrev pub vtgAt : List ℕ → Vtg
 vtgAt n = record { course = numberAt n 1; magnetic = numberAt n 3; knots = knotsAt n 5; kmh = kmhAt n 7; mode = plainAt n 9 }
@@ -114,7 +144,8 @@ abbrev pub makerKinds : List Address
 makerKinds = Maker P.Pr ∷ Maker P.Tr ∷ Maker P.Sr ∷ Maker P.Er ∷ Maker P.Pa ∷ Maker P.Ta ∷ Maker P.Sa ∷ Maker P.Ea ∷ []
 
 abbrev pub standardKinds : Talker → List Address
-standardKinds t = Standard t K.Gga ∷ Standard t K.Gll ∷ Standard t K.Gsa ∷ Standard t K.Gsv ∷ Standard t K.Rmc ∷ Standard t K.Vtg ∷ Standard t K.Zda ∷ makerKinds
+standardKinds t = Standard t K.Gga ∷ Standard t K.Gll ∷ Standard t K.Gsa ∷ Standard t K.Gsv ∷ Standard t K.Rmc ∷ Standard t K.Vtg ∷
+    Standard t K.Zda ∷ makerKinds
 
 unfoldable pub knownOf : ℕ → Talker → Address
 knownOf kind t = getD (Unknown ∷ standardKinds t) kind Unknown

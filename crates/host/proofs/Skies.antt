@@ -1,4 +1,5 @@
--- A sky that was read, by the answer that it says: a whole one has its talker and at most 36 satellites, which fill the places of its table,
+-- A sky that was read, by the answer that it says: a whole one has its talker and at most 36 satellites, which fill the places of its
+-- table,
 -- and is laid into the numbers; nobody's is refused and leaves them.
 use Prim.Native.Nat.{ℕ, _-_, _≤_}
 use mathlib.Core.Path.{_≡_, refl, sym, _∙_, ap}
@@ -23,7 +24,12 @@ pub few : (a : Answer) (s : Sky) → s ≡ skyOf a → length (s .table .entries
 few a s e h = rw e (go a (sym (ap (λ (s : Sky). length (s .table .entries)) e) ∙ h))
   where
     go : (a : Answer) → length (skyOf a .table .entries) ≡ 36 → skyOf a .table .count ≤ 36
-    go (whole t es) h = omega (arith, h, length-append es (replicate (36 - length es) blankEntry), length-replicate (36 - length es) blankEntry)
+    go (whole t es) h = omega (
+      arith,
+      h,
+      length-append es (replicate (36 - length es) blankEntry),
+      length-replicate (36 - length es) blankEntry,
+    )
     go (refused n k f) h = omega arith
 
 -- What a whole sky and nobody's differ in.
@@ -47,12 +53,22 @@ nobody (whole t es) s out e h =
     absurd w
 nobody (refused n k f) s out e h = (ap (λ (s : Sky). s .no) e, (ap (λ (s : Sky). s .line) e, (ap (λ (s : Sky). s .field) e, refl)))
 
-pub somebody : (a : Answer) (s : Sky) (t : Talker) (out left : List ℕ) → s ≡ skyOf a → s .talker ≡ Of t → left ≡ laid (skyNumbers t (s .table)) out
+pub somebody : (a : Answer) (s : Sky) (t : Talker) (out left : List ℕ) → s ≡ skyOf a → s .talker ≡ Of t
+    → left ≡ laid (skyNumbers t (s .table)) out
     → {n : ℕ} → n ≡ cond (ltb (length out) 254) 8 0 → Hands a out n s left
 somebody (refused n k f) s t out left e h l q =
     let z : _≡_ {A = ℕ} 0 1 = ap count (sym (ap (λ (s : Sky). s .talker) e) ∙ h) in
     let w : ⊥ = omega (arith, z) in
     absurd w
 somebody (whole t′ es) s t out left e h l q =
-    let same : t ≡ t′ = ap who (sym h ∙ ap (λ (s : Sky). s .talker) e) in
-    (q, (ap (λ (s : Sky). s .line) e, (ap (λ (s : Sky). s .field) e, l ∙ ap (λ (t : Talker). laid (skyNumbers t (s .table)) out) same ∙ ap (λ (s : Sky). laid (skyNumbers t′ (s .table)) out) e)))
+    let same : t ≡ t′ = ap who (sym h ∙ ap (λ (s : Sky). s .talker) e) in (
+      q,
+      (
+        ap (λ (s : Sky). s .line) e,
+        (
+          ap (λ (s : Sky). s .field) e,
+          l ∙ ap (λ (t : Talker). laid (skyNumbers t (s .table)) out) same
+              ∙ ap (λ (s : Sky). laid (skyNumbers t′ (s .table)) out) e,
+        ),
+      ),
+    )

@@ -18,7 +18,8 @@ use Rattle.host.specs.Command.{carried, stepped}
 module _ (n : List ℕ) (arrival : ℕ) (line out : List ℕ) where
   abbrev Steps : Written → List ℕ → List ℕ → Type 0
   Steps w numbers left =
-      (w ≡ stepped n arrival line out .answer) × ((numbers ≡ stepped n arrival line out .numbers) × (left ≡ stepped n arrival line out .out))
+      (w ≡ stepped n arrival line out .answer)
+      × ((numbers ≡ stepped n arrival line out .numbers) × (left ≡ stepped n arrival line out .out))
 
   pub short : length n < 11 → {w : Written} → w ≡ refused 5 0 0 → Steps w n out
   unfolding stepped
@@ -39,7 +40,8 @@ module _ (n : List ℕ) (arrival : ℕ) (line out : List ℕ) where
     no-is : d .written .no ≡ answerOf outcome (length out) .no
     no-is = ap (λ (w : Written). w .no) (does .answers)
 
-    pub answered : d .written .no ≡ 0 → {numbers : List ℕ} → numbers ≡ laid (settingNumbers (d .settings)) n → Steps (d .written) numbers left
+    pub answered : d .written .no ≡ 0 → {numbers : List ℕ} → numbers ≡ laid (settingNumbers (d .settings)) n
+        → Steps (d .written) numbers left
     answered z q =
         goes
         (q

@@ -39,7 +39,8 @@ refusing n out = record { answer = refused n 0 0; out = out }
 abbrev pub tablePut : Talker → Table → List ℕ → Put
 tablePut t r out = record { answer = writtenGroup t r (length out); out = leftGroup t r out }
 
--- 5 for fewer than 254 numbers, then 3 for a talker's number over 4, both with line 0 and field 0; then what writing the table that they say
+-- 5 for fewer than 254 numbers, then 3 for a talker's number over 4, both with line 0 and field 0; then what writing the table that they
+-- say
 -- comes to.
 unfoldable pub groupPut : List ℕ → List ℕ → Put
 groupPut numbers out =

@@ -54,7 +54,8 @@ pub extern "C" fn castanwel_step(
 ) -> u8
     ensures { λ r. ⌜ r ≡ stepped (now (settings .entry)) arrival (now (line .entry)) (now (out .entry)) .answer .no ⌝ }
     ensures { λ _. ⌜ now (length .exit) ≡ stepped (now (settings .entry)) arrival (now (line .entry)) (now (out .entry)) .answer .length ⌝ }
-    ensures { λ _. ⌜ now («at_line» .exit) ≡ stepped (now (settings .entry)) arrival (now (line .entry)) (now (out .entry)) .answer .line ⌝ }
+    ensures { λ _. ⌜ now («at_line» .exit) ≡ stepped (now (settings .entry)) arrival (now (line .entry))
+        (now (out .entry)) .answer .line ⌝ }
     ensures { λ _. ⌜ now (field .exit) ≡ stepped (now (settings .entry)) arrival (now (line .entry)) (now (out .entry)) .answer .field ⌝ }
     ensures { λ _. ⌜ now (settings .exit) ≡ stepped (now (settings .entry)) arrival (now (line .entry)) (now (out .entry)) .numbers ⌝ }
     ensures { λ _. ⌜ now (out .exit) ≡ stepped (now (settings .entry)) arrival (now (line .entry)) (now (out .entry)) .out ⌝ }

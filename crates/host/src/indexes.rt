@@ -18,7 +18,8 @@ pub extern "C" fn castanwel_index_write(
     field: &mut usize,
 ) -> u8
     ensures { λ r. ⌜ r ≡ writtenIndex (now (entries .entry)) (length (now (out .entry))) .no ⌝ }
-    ensures { λ _. ⌜ now (size .exit) ≡ setAt (writtenIndex (now (entries .entry)) (length (now (out .entry))) .no) (writtenIndex (now (entries .entry)) (length (now (out .entry))) .length) (now (size .entry)) ⌝ }
+    ensures { λ _. ⌜ now (size .exit) ≡ setAt (writtenIndex (now (entries .entry)) (length (now (out .entry))) .no)
+        (writtenIndex (now (entries .entry)) (length (now (out .entry))) .length) (now (size .entry)) ⌝ }
     ensures { λ _. ⌜ now (line .exit) ≡ writtenIndex (now (entries .entry)) (length (now (out .entry))) .line ⌝ }
     ensures { λ _. ⌜ now (field .exit) ≡ writtenIndex (now (entries .entry)) (length (now (out .entry))) .field ⌝ }
     ensures { λ _. ⌜ now (out .exit) ≡ leftIndex (now (entries .entry)) (now (out .entry)) ⌝ }
@@ -41,7 +42,8 @@ pub extern "C" fn castanwel_index_read(
     field: &mut usize,
 ) -> u8
     ensures { λ r. ⌜ r ≡ listedFor (readIndex (now (index .entry))) (length (now (entries .entry))) .no ⌝ }
-    ensures { λ _. ⌜ now (count .exit) ≡ setAt (listedFor (readIndex (now (index .entry))) (length (now (entries .entry))) .no) (listedFor (readIndex (now (index .entry))) (length (now (entries .entry))) .count) (now (count .entry)) ⌝ }
+    ensures { λ _. ⌜ now (count .exit) ≡ setAt (listedFor (readIndex (now (index .entry))) (length (now (entries .entry))) .no)
+        (listedFor (readIndex (now (index .entry))) (length (now (entries .entry))) .count) (now (count .entry)) ⌝ }
     ensures { λ _. ⌜ now (line .exit) ≡ listedFor (readIndex (now (index .entry))) (length (now (entries .entry))) .line ⌝ }
     ensures { λ _. ⌜ now (field .exit) ≡ listedFor (readIndex (now (index .entry))) (length (now (entries .entry))) .field ⌝ }
     ensures { λ _. ⌜ now (entries .exit) ≡ laidFor (readIndex (now (index .entry))) (now (entries .entry)) ⌝ }
@@ -68,7 +70,8 @@ pub extern "C" fn castanwel_index_add(
     field: &mut usize,
 ) -> u8
     ensures { λ r. ⌜ r ≡ addedIndex (now (index .entry)) used (entryWith number offset size) .no ⌝ }
-    ensures { λ _. ⌜ now (after .exit) ≡ setAt (addedIndex (now (index .entry)) used (entryWith number offset size) .no) (addedIndex (now (index .entry)) used (entryWith number offset size) .length) (now (after .entry)) ⌝ }
+    ensures { λ _. ⌜ now (after .exit) ≡ setAt (addedIndex (now (index .entry)) used (entryWith number offset size) .no)
+        (addedIndex (now (index .entry)) used (entryWith number offset size) .length) (now (after .entry)) ⌝ }
     ensures { λ _. ⌜ now (line .exit) ≡ addedIndex (now (index .entry)) used (entryWith number offset size) .line ⌝ }
     ensures { λ _. ⌜ now (field .exit) ≡ addedIndex (now (index .entry)) used (entryWith number offset size) .field ⌝ }
     ensures { λ _. ⌜ now (index .exit) ≡ leftAdded (now (index .entry)) used (entryWith number offset size) ⌝ }
@@ -97,8 +100,10 @@ pub extern "C" fn castanwel_index_find(
     field: &mut usize,
 ) -> u8
     ensures { λ r. ⌜ r ≡ foundIn number (readIndex (now (index .entry))) .no ⌝ }
-    ensures { λ _. ⌜ now (offset .exit) ≡ setAt (foundIn number (readIndex (now (index .entry))) .no) (foundIn number (readIndex (now (index .entry))) .offset) (now (offset .entry)) ⌝ }
-    ensures { λ _. ⌜ now (size .exit) ≡ setAt (foundIn number (readIndex (now (index .entry))) .no) (foundIn number (readIndex (now (index .entry))) .length) (now (size .entry)) ⌝ }
+    ensures { λ _. ⌜ now (offset .exit) ≡ setAt (foundIn number (readIndex (now (index .entry))) .no)
+        (foundIn number (readIndex (now (index .entry))) .offset) (now (offset .entry)) ⌝ }
+    ensures { λ _. ⌜ now (size .exit) ≡ setAt (foundIn number (readIndex (now (index .entry))) .no)
+        (foundIn number (readIndex (now (index .entry))) .length) (now (size .entry)) ⌝ }
     ensures { λ _. ⌜ now (line .exit) ≡ foundIn number (readIndex (now (index .entry))) .line ⌝ }
     ensures { λ _. ⌜ now (field .exit) ≡ foundIn number (readIndex (now (index .entry))) .field ⌝ }
 {

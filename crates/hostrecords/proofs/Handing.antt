@@ -20,4 +20,8 @@ handed n h out w e = rw (refused-by n h, e) (fault-out (refused n 0 0) [] out h)
 
 module _ (kind : ℕ) (n : List ℕ) (r : Reading) (e : r ≡ recordAt kind n) (out : List ℕ) {w : Written} {left : List ℕ} where
   pub written-is : Writes (recordFault r) (recordBody r) out w left → (w ≡ writtenAs kind n out) × (left ≡ leftAs kind n out)
-  written-is p = (p .answers ∙ ap (λ x. writtenOf (recordFault x) (recordBody x) (length out)) e, p .leaves ∙ ap (λ x. leftOf (recordFault x) (recordBody x) out) e)
+  written-is p = (
+    p .answers ∙ ap (λ x. writtenOf (recordFault x) (recordBody x) (length out)) e,
+    p .leaves
+        ∙ ap (λ x. leftOf (recordFault x) (recordBody x) out) e,
+  )

@@ -1,4 +1,5 @@
--- What a host is told of a line beside the numbers of its record: 0 and the kind; or the refusal of the line with its field; or 8, where the
+-- What a host is told of a line beside the numbers of its record: 0 and the kind; or the refusal of the line with its field; or 8, where
+-- the
 -- numbers have no room. The kind is 0 where it is not read.
 use Prim.Native.Nat.{ℕ}
 use mathlib.Core.Bool.{Bool}

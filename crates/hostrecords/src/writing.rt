@@ -8,7 +8,8 @@ ghost use Rattle.fromnumbers.specs.Back.{makerAt, standardAt};
 ghost use Rattle.hostrecords.specs.FromHost.{recordBody, recordFault};
 
 pub fn standard(out: &mut [u8], t: Talker, k: Kind, n: &[u32]) -> Written
-    ensures { λ w. ⌜ Writes (recordFault (standardAt t k (now (n .entry)))) (recordBody (standardAt t k (now (n .entry)))) (now (out .entry)) w (now (out .exit)) ⌝ }
+    ensures { λ w. ⌜ Writes (recordFault (standardAt t k (now (n .entry)))) (recordBody (standardAt t k (now (n .entry))))
+        (now (out .entry)) w (now (out .exit)) ⌝ }
 {
     match k {
         Kind::Gga => kind_gga::write(out, t, fromnumbers::nav::gga(n)),
@@ -22,7 +23,8 @@ pub fn standard(out: &mut [u8], t: Talker, k: Kind, n: &[u32]) -> Written
 }
 
 pub fn maker(out: &mut [u8], k: Pir, n: &[u32]) -> Written
-    ensures { λ w. ⌜ Writes (recordFault (makerAt k (now (n .entry)))) (recordBody (makerAt k (now (n .entry)))) (now (out .entry)) w (now (out .exit)) ⌝ }
+    ensures { λ w. ⌜ Writes (recordFault (makerAt k (now (n .entry)))) (recordBody (makerAt k (now (n .entry)))) (now (out .entry)) w
+        (now (out .exit)) ⌝ }
 {
     match k {
         Pir::Pr => kind_pir_port::command::write(out, fromnumbers::com::pirpr(n)),

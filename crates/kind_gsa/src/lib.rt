@@ -12,7 +12,8 @@ ghost use Rattle.put.specs.Wrote.{held, Puts, PutsFields};
 ghost use Rattle.fields.specs.Places.{fieldsBy};
 ghost use Rattle.frame.specs.Written.{faultAt, Writes};
 ghost use Rattle.form.specs.Wrong.{nearOf};
-ghost use Rattle.kind_gsa.specs.Row.{gsaBody, gsaFields, gsaFrom, gsaOf, gsaWrong, satelliteField, satelliteWrong, twelveOf, twelveRow};
+ghost use Rattle.kind_gsa.specs.Row.{gsaBody, gsaFields, gsaFrom, gsaOf, gsaWrong, satelliteField, satelliteWrong, twelveOf};
+ghost use Rattle.kind_gsa.specs.Row.{twelveRow};
 
 // The twelve satellites, and the first wrong field from theirs on.
 struct Twelve {
@@ -144,7 +145,9 @@ pub fn read(t: Talker, n: usize, s: &[u8], p: &[usize]) -> Reading
 // The first wrong field from a satellite's on: of the first six, and of the last six; `rest` is the first after
 // them.
 fn first_six(r: Gsa, rest: usize) -> usize
-    ensures { λ w. ⌜ w ≡ nearOf 2 (satelliteWrong r 0) (nearOf 3 (satelliteWrong r 1) (nearOf 4 (satelliteWrong r 2) (nearOf 5 (satelliteWrong r 3) (nearOf 6 (satelliteWrong r 4) (nearOf 7 (satelliteWrong r 5) rest))))) ⌝ }
+    ensures { λ w. ⌜ w ≡ nearOf 2 (satelliteWrong r 0)
+        (nearOf 3 (satelliteWrong r 1) (nearOf 4 (satelliteWrong r 2)
+        (nearOf 5 (satelliteWrong r 3) (nearOf 6 (satelliteWrong r 4) (nearOf 7 (satelliteWrong r 5) rest))))) ⌝ }
 {
     let w5 = form::keep::near(
         7,
@@ -179,7 +182,9 @@ fn first_six(r: Gsa, rest: usize) -> usize
 }
 
 fn last_six(r: Gsa, rest: usize) -> usize
-    ensures { λ w. ⌜ w ≡ nearOf 8 (satelliteWrong r 6) (nearOf 9 (satelliteWrong r 7) (nearOf 10 (satelliteWrong r 8) (nearOf 11 (satelliteWrong r 9) (nearOf 12 (satelliteWrong r 10) (nearOf 13 (satelliteWrong r 11) rest))))) ⌝ }
+    ensures { λ w. ⌜ w ≡ nearOf 8 (satelliteWrong r 6)
+        (nearOf 9 (satelliteWrong r 7) (nearOf 10 (satelliteWrong r 8)
+        (nearOf 11 (satelliteWrong r 9) (nearOf 12 (satelliteWrong r 10) (nearOf 13 (satelliteWrong r 11) rest))))) ⌝ }
 {
     let w11 = form::keep::near(
         13,
@@ -238,7 +243,9 @@ fn wrong(r: Gsa) -> usize
 }
 
 fn put_first(out: &mut [u8], at: usize, r: Gsa) -> usize
-    ensures { λ n. ⌜ PutsFields (held at (now (out .entry))) (satelliteField r 0 ∷ satelliteField r 1 ∷ satelliteField r 2 ∷ satelliteField r 3 ∷ satelliteField r 4 ∷ satelliteField r 5 ∷ []) (held n (now (out .exit))) ⌝ }
+    ensures { λ n. ⌜ PutsFields (held at (now (out .entry)))
+        (satelliteField r 0 ∷ satelliteField r 1 ∷ satelliteField r 2 ∷ satelliteField r 3 ∷ satelliteField r 4 ∷ satelliteField r 5 ∷ [])
+        (held n (now (out .exit))) ⌝ }
 {
     let a0 = form_number::text::two(out, at, r.satellites[0].there, r.satellites[0].value);
     let a1 = form_number::text::two(out, a0, r.satellites[1].there, r.satellites[1].value);
@@ -249,7 +256,9 @@ fn put_first(out: &mut [u8], at: usize, r: Gsa) -> usize
 }
 
 fn put_last(out: &mut [u8], at: usize, r: Gsa) -> usize
-    ensures { λ n. ⌜ PutsFields (held at (now (out .entry))) (satelliteField r 6 ∷ satelliteField r 7 ∷ satelliteField r 8 ∷ satelliteField r 9 ∷ satelliteField r 10 ∷ satelliteField r 11 ∷ []) (held n (now (out .exit))) ⌝ }
+    ensures { λ n. ⌜ PutsFields (held at (now (out .entry)))
+        (satelliteField r 6 ∷ satelliteField r 7 ∷ satelliteField r 8 ∷ satelliteField r 9 ∷ satelliteField r 10 ∷ satelliteField r 11 ∷
+        []) (held n (now (out .exit))) ⌝ }
 {
     let a6 = form_number::text::two(out, at, r.satellites[6].there, r.satellites[6].value);
     let a7 = form_number::text::two(out, a6, r.satellites[7].there, r.satellites[7].value);

@@ -1,4 +1,5 @@
--- The laws of the rows of PIRER and PIREA, form by form: what is written is read back, what was read is in range, and which field a 5 names.
+-- The laws of the rows of PIRER and PIREA, form by form: what is written is read back, what was read is in range, and which field a 5
+-- names.
 use mathlib.Core.Bool.{true}
 use mathlib.Core.Path.{_≡_, refl}
 use lib.Dec.{lit<, lit≤}

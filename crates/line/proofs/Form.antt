@@ -14,7 +14,8 @@ use borrow.Author.Tests.{eqb-true, eq-eqb, leb-true, le-leb}
 use Rattle.digits.specs.Hex.{hexDigit, hexOf}
 use Rattle.digits.proofs.Bools.{and-left, and-right, and-both, true-false, pick-first, pick-second, no}
 use Rattle.digits.proofs.HexLaws.{hex-is}
-use Rattle.line.specs.Line.{bodyByte, bodyBytes, xorFrom, xorOf, bodyOf, endOf, endForm, lineForm, endGives, lineRefusal, lineWith, asLine}
+use Rattle.line.specs.Line.{bodyByte, bodyBytes, xorFrom, xorOf, bodyOf, endOf, endForm, lineForm, endGives, lineRefusal, lineWith}
+use Rattle.line.specs.Line.{asLine}
 
 -- A body that a line can have: allowed bytes, 1 to 76 of them.
 pub record Body (s : List ℕ) : Type 0 where
@@ -162,14 +163,19 @@ unfolding lineRefusal endGives
 refused-two l f =
     let p = pick-first (lineForm l) _ 1 2 (omega arith) f in
     let q = pick-second (endGives (xorOf (bodyOf l)) (endOf l)) 0 2 2 (omega arith) (p .1) .0 in
-    let x = xorOf (bodyOf l) in
-    (formed l (p .0), λ d e. true-false (and-both _ _ (eq-eqb (getD (endOf l) 1 0) (hexOf (x / 16)) d) (eq-eqb (getD (endOf l) 2 0) (hexOf (x % 16)) e)) q)
+    let x = xorOf (bodyOf l) in (
+      formed l (p .0),
+      λ d e. true-false
+          (and-both _ _ (eq-eqb (getD (endOf l) 1 0) (hexOf (x / 16)) d) (eq-eqb (getD (endOf l) 2 0) (hexOf (x % 16)) e)) q,
+    )
 
-pub refuses-two : (body : List ℕ) (d e : ℕ) → Body body → hexDigit d ≡ true → hexDigit e ≡ true → OtherDigits body d e → lineRefusal (lineWith body d e) ≡ 2
+pub refuses-two : (body : List ℕ) (d e : ℕ) → Body body → hexDigit d ≡ true → hexDigit e ≡ true → OtherDigits body d e
+    → lineRefusal (lineWith body d e) ≡ 2
 refuses-two body d e b h l n = decided body d e b h l ∙ no _ 0 2 (go (eqb d _ && eqb e _) refl)
   where
     go : (t : Bool) → (eqb d (hexOf (xorOf body / 16)) && eqb e (hexOf (xorOf body % 16))) ≡ t → t ≡ false
-    go true f = absurd (n (eqb-true d (hexOf (xorOf body / 16)) (and-left _ _ f)) (eqb-true e (hexOf (xorOf body % 16)) (and-right (eqb d (hexOf (xorOf body / 16))) _ f)))
+    go true f = absurd (n (eqb-true d (hexOf (xorOf body / 16)) (and-left _ _ f))
+        (eqb-true e (hexOf (xorOf body % 16)) (and-right (eqb d (hexOf (xorOf body / 16))) _ f)))
     go false f = refl
 
 -- Every answer is 0, 1 or 2.

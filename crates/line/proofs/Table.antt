@@ -17,7 +17,8 @@ pub mark-at : (t : ℕ → Bool) (n b : ℕ) → b < n → getD (filled (λ k. m
 mark-at t n b h = filled-at (λ k. marked (t k)) 0 n b h ∙ rw zero-add
 
 -- Marks are joined bit by bit.
-pub mark-and : (m k : ℕ) (t : Bool) → m ≡ marked (eqb m 49) → k ≡ marked t → (bitAnd m k ≡ marked (eqb (bitAnd m k) 49)) × (eqb (bitAnd m k) 49 ≡ (eqb m 49 && t))
+pub mark-and : (m k : ℕ) (t : Bool) → m ≡ marked (eqb m 49) → k ≡ marked t → (bitAnd m k ≡ marked (eqb (bitAnd m k) 49))
+    × (eqb (bitAnd m k) 49 ≡ (eqb m 49 && t))
 mark-and m k t = go (eqb m 49) t
   where
     go : (g t : Bool) → m ≡ marked g → k ≡ marked t → (bitAnd m k ≡ marked (eqb (bitAnd m k) 49)) × (eqb (bitAnd m k) 49 ≡ (g && t))

@@ -66,4 +66,6 @@ passes-ending l h =
     let x = xorOf (bodyOf l) in
     subst Ending (sym (p .1))
     (on 36 _ (lit< tt)
-    (body-on (bodyOf l) _ (p .0 .good) (on 42 _ (lit< tt) (on (hexOf (x / 16)) _ (hex-on (x / 16)) (on (hexOf (x % 16)) _ (hex-on (x % 16)) (on 13 _ (lit< tt) (inl (refl, refl))))))))
+    (body-on (bodyOf l) _ (p .0 .good)
+    (on 42 _ (lit< tt) (on (hexOf (x / 16)) _ (hex-on (x / 16))
+    (on (hexOf (x % 16)) _ (hex-on (x % 16)) (on 13 _ (lit< tt) (inl (refl, refl))))))))

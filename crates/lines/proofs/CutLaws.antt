@@ -75,7 +75,8 @@ cut-first b [] = go (eqb b 10)
 cut-first b (c ∷ s) = go (eqb b 10) (cut-first c s)
   where
     go : (t : Bool) → cutRest (c ∷ s) ≡ firstOf (c ∷ s) ∷ cutRest (afterOf (c ∷ s))
-        → cond t ((b ∷ []) ∷ cutRest (c ∷ s)) (before b (cutRest (c ∷ s))) ≡ (b ∷ cond t [] (firstOf (c ∷ s))) ∷ cutRest (cond t (c ∷ s) (afterOf (c ∷ s)))
+        → cond t ((b ∷ []) ∷ cutRest (c ∷ s)) (before b (cutRest (c ∷ s))) ≡ (b ∷ cond t [] (firstOf (c ∷ s))) ∷ cutRest
+        (cond t (c ∷ s) (afterOf (c ∷ s)))
     go true ih = refl
     go false ih = ap (before b) ih
 
@@ -86,7 +87,8 @@ width-parts [] = (refl, refl)
 width-parts (b ∷ s) = go (eqb b 10) (width-parts s)
   where
     go : (t : Bool) → (firstOf s ≡ take (lineWidth s) s) × (afterOf s ≡ drop (lineWidth s) s)
-        → (b ∷ cond t [] (firstOf s) ≡ take (cond t 1 (suc (lineWidth s))) (b ∷ s)) × (cond t s (afterOf s) ≡ drop (cond t 1 (suc (lineWidth s))) (b ∷ s))
+        → (b ∷ cond t [] (firstOf s) ≡ take (cond t 1 (suc (lineWidth s))) (b ∷ s))
+        × (cond t s (afterOf s) ≡ drop (cond t 1 (suc (lineWidth s))) (b ∷ s))
     go true ih = (refl, refl)
     go false ih = (ap (λ (r : List ℕ). b ∷ r) (ih .0), ih .1)
 

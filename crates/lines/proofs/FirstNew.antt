@@ -18,7 +18,8 @@ use Rattle.lines.specs.Cut.{cutRest, cutLines, joined}
 use Rattle.lines.specs.Edit.{OneByte, changed, dropped, added}
 use Rattle.lines.specs.New.{alike, firstNew, IsFirstNew}
 use Rattle.lines.proofs.CutLaws.{firstOf, afterOf, first-after, cut-first, rest-joined}
-use Rattle.lines.proofs.Machine.{St, start, lf, dead, step, back, between, stepped, walk, start-dead, lives, unique, one-byte-walk, line-walk, Lines, lines-walk}
+use Rattle.lines.proofs.Machine.{St, start, lf, dead, step, back, between, stepped, walk, start-dead, lives, unique, one-byte-walk}
+use Rattle.lines.proofs.Machine.{line-walk, Lines, lines-walk}
 
 -- where a byte leads to the start of a line, only LF goes on
 is-lf : (q : St) (x : ℕ) → step q x ≡ start → q ≡ lf
@@ -37,11 +38,13 @@ first-changed : (q : St) (p s : List ℕ) (x y : ℕ) → walk q (firstOf (p ++ 
     → firstOf (p ++ x ∷ s) ≡ firstOf (p ++ y ∷ s)
 first-changed q [] s x y e f = ap (λ (b : ℕ). firstOf (b ∷ s)) (go (eqb x 10) (eqb y 10) refl refl e f)
   where
-    go : (t u : Bool) → eqb x 10 ≡ t → eqb y 10 ≡ u → walk (step q x) (cond t [] (firstOf s)) ≡ start → walk (step q y) (cond u [] (firstOf s)) ≡ start → x ≡ y
+    go : (t u : Bool) → eqb x 10 ≡ t → eqb y 10 ≡ u → walk (step q x) (cond t [] (firstOf s)) ≡ start
+        → walk (step q y) (cond u [] (firstOf s)) ≡ start → x ≡ y
     go true u i j e f = eqb-true x 10 i ∙ sym (only-lf q x y e (lives (step q y) (cond u [] (firstOf s)) f))
     go false true i j e f = only-lf q y x f (lives (step q x) (firstOf s) e) ∙ sym (eqb-true y 10 j)
     go false false i j e f =
-        sym (stepped q x (lives (step q x) (firstOf s) e) .byte) ∙ ap (between q) (unique (step q x) (step q y) (firstOf s) e f) ∙ stepped q y (lives (step q y) (firstOf s) f) .byte
+        sym (stepped q x (lives (step q x) (firstOf s) e) .byte) ∙ ap (between q) (unique (step q x) (step q y) (firstOf s) e f)
+        ∙ stepped q y (lives (step q y) (firstOf s) f) .byte
 first-changed q (b ∷ p) s x y e f = further (eqb b 10) b _ _ (step q b) (first-changed (step q b) p s x y) e f
 
 lf-next : (q : St) (s : List ℕ) (x : ℕ) → x ≡ 10 → step q x ≡ start → walk q (firstOf s) ≡ start → x ∷ [] ≡ firstOf s
@@ -83,7 +86,8 @@ one-longer (changed p s x y n) = simp length-append (omega arith)
 one-longer (dropped p s x) = simp length-append (omega arith)
 one-longer (added p s x) = simp length-append (omega arith)
 
--- old lines and new ones, n of them the same at the start; then comes a new line that does not pass, and that differs from the old one or has none
+-- old lines and new ones, n of them the same at the start; then comes a new line that does not pass, and that differs from the old one or
+-- has none
 pub data Fault : List (List ℕ) → List (List ℕ) → ℕ → Type 0 where
   past : (m : List ℕ) (ms : List (List ℕ)) → (lineRefusal m ≡ 0 → ⊥) → Fault [] (m ∷ ms) 0
   here : (l m : List ℕ) (ls ms : List (List ℕ)) → (l ≡ m → ⊥) → (lineRefusal m ≡ 0 → ⊥) → Fault (l ∷ ls) (m ∷ ms) 0
@@ -113,13 +117,15 @@ rest-edit {a} {b} {l} {m} p q i d =
     (subst (λ (v : List ℕ). OneByte (l ++ afterOf a) v) (q .whole ∙ ap (λ (r : List ℕ). r ++ afterOf b) (sym i))
     (subst (λ (u : List ℕ). OneByte u b) (p .whole) d))
 
-first-fails : {a b l m : List ℕ} {ls ms : List (List ℕ)} → Apart a l ls → Apart b m ms → OneByte a b → lineRefusal l ≡ 0 → (l ≡ m → ⊥) → lineRefusal m ≡ 0 → ⊥
+first-fails : {a b l m : List ℕ} {ls ms : List (List ℕ)} → Apart a l ls → Apart b m ms → OneByte a b → lineRefusal l ≡ 0 → (l ≡ m → ⊥)
+    → lineRefusal m ≡ 0 → ⊥
 first-fails {a} {b} {l} {m} p q d e n f =
     n (sym (p .first) ∙ first-same d (ap (walk start) (p .first) ∙ line-walk l e) (ap (walk start) (q .first) ∙ line-walk m f) ∙ q .first)
 
 find : (old new : List (List ℕ)) (a b : List ℕ) → cutRest a ≡ old → cutRest b ≡ new → OneByte a b → Lines old → Found old new
 find old [] a b e f d h =
-    absurd (one-byte-walk d (ap (walk start) (sym (rest-joined a) ∙ ap joined e) ∙ lines-walk old h) (ap (walk start) (sym (rest-joined b) ∙ ap joined f)))
+    absurd (one-byte-walk d (ap (walk start) (sym (rest-joined a) ∙ ap joined e) ∙ lines-walk old h)
+    (ap (walk start) (sym (rest-joined b) ∙ ap joined f)))
 find [] (m ∷ ms) a b e f d h = (
   0,
   past m ms (λ k.
@@ -137,7 +143,8 @@ find (l ∷ ls) (m ∷ ms) a b e f d h =
         let r = ih (rest-edit p q s d) in
         subst (λ (w : List ℕ). Found (l ∷ ls) (w ∷ ms)) s (suc (r .0), later l ls ms (r .0) (r .1))
     go false i p q ih =
-        let n : (l ≡ m → ⊥) = λ s. let z : true ≡ false = sym (same-refl l) ∙ ap (same l) s ∙ i in let y : _≡_ {A = ℕ} 0 1 = cc in omega arith in
+        let n : (l ≡ m → ⊥) = λ s. let z : true ≡ false = sym (same-refl l) ∙ ap (same l) s ∙ i in let y : _≡_ {A = ℕ} 0 1 =
+        cc in omega arith in
         (0, here l m ls ms n (first-fails p q d (h .0) n))
 
 none-fails : lineRefusal [] ≡ 0 → ⊥
@@ -164,7 +171,8 @@ alike-same [] new j h = let z : ⊥ = omega arith in absurd z
 alike-same (l ∷ old) [] j h = let z : ⊥ = omega arith in absurd z
 alike-same (l ∷ old) (m ∷ new) j h = go (same l m) refl j h (alike-same old new)
   where
-    go : (t : Bool) → same l m ≡ t → (j : ℕ) → j < cond t (suc (alike old new)) 0 → ((i : ℕ) → i < alike old new → (i < length old) × (getD new i [] ≡ getD old i []))
+    go : (t : Bool) → same l m ≡ t → (j : ℕ) → j < cond t (suc (alike old new)) 0
+        → ((i : ℕ) → i < alike old new → (i < length old) × (getD new i [] ≡ getD old i []))
         → (j < length (l ∷ old)) × (getD (m ∷ new) j [] ≡ getD (l ∷ old) j [])
     go true i zero h ih = (omega arith, sym (same-true l m i))
     go true i (suc j) h ih = let r = ih j (omega arith) in (omega arith, r .1)
@@ -179,9 +187,11 @@ alike-differs (l ∷ old) (m ∷ new) h = go (same l m) refl h (alike-differs ol
   where
     go : (t : Bool) → same l m ≡ t → cond t (suc (alike old new)) 0 < length (m ∷ new)
         → (alike old new < length new → (length old ≤ alike old new) ⊎ (getD new (alike old new) [] ≡ getD old (alike old new) [] → ⊥))
-        → (length (l ∷ old) ≤ cond t (suc (alike old new)) 0) ⊎ (getD (m ∷ new) (cond t (suc (alike old new)) 0) [] ≡ getD (l ∷ old) (cond t (suc (alike old new)) 0) [] → ⊥)
+        → (length (l ∷ old) ≤ cond t (suc (alike old new)) 0) ⊎
+        (getD (m ∷ new) (cond t (suc (alike old new)) 0) [] ≡ getD (l ∷ old) (cond t (suc (alike old new)) 0) [] → ⊥)
     go true i h ih = ⊎-elim (λ k. inl (omega arith)) (λ k. inr k) (ih (omega arith))
-    go false i h ih = inr (λ s. let z : true ≡ false = sym (same-refl l) ∙ ap (same l) (sym s) ∙ i in let y : _≡_ {A = ℕ} 0 1 = cc in omega arith)
+    go false i h ih = inr (λ s. let z : true ≡ false = sym (same-refl l) ∙ ap (same l) (sym s)
+        ∙ i in let y : _≡_ {A = ℕ} 0 1 = cc in omega arith)
 
 add-sub-one : (n : ℕ) → n + 1 - 1 ≡ n
 add-sub-one n = omega arith
@@ -211,7 +221,8 @@ first-new-only old new k h = go (ltb k (alike old new + 1)) (ltb (alike old new 
         let c = ltb-true (alike old new + 1) k j in
         let w : k ≤ length new = h .there in
         let r = h .alike-before (alike old new + 1) (omega arith) c in
-        absurd (⊎-elim (λ m. omega (arith, r .0)) (λ m. m (rw (add-sub-one (alike old new)) at (r .1))) (alike-differs old new (omega arith)))
+        absurd (⊎-elim (λ m. omega (arith, r .0)) (λ m. m (rw (add-sub-one (alike old new)) at (r .1)))
+        (alike-differs old new (omega arith)))
     go false false i j = omega (arith, ltb-false k (alike old new + 1) i, ltb-false (alike old new + 1) k j)
 
 -- of an edit there is one, and it does not pass

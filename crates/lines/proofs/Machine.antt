@@ -101,10 +101,12 @@ module _ (b x : ℕ) where
       record {
         was = simp (t, u, ne-eqb b 36 (body-dollar b u)) (ap body (xor-back x b));
         byte = simp (t, u) (ap (λ (k : ℕ). bitXor k x) (xor-comm x b) ∙ xor-back b x);
-        moved = λ h. let k : body (bitXor x b) ≡ body x = simp (t, u) at h in let z : bitXor x b ≡ x = cc in let y = xor-fixed x b z in let w = body-low b u in omega arith;
+        moved = λ h. let k : body (bitXor x b) ≡ body x = simp (t, u) at h in let z : bitXor x b ≡ x = cc in let y =
+            xor-fixed x b z in let w = body-low b u in omega arith;
       }
 
-  body-alive : (t u : Bool) → eqb b 42 ≡ t → bodyByte b ≡ u → (cond t (high x) (cond u (body (bitXor x b)) dead) ≡ dead → ⊥) → Stepped (body x) b
+  body-alive : (t u : Bool) → eqb b 42 ≡ t → bodyByte b ≡ u → (cond t (high x) (cond u (body (bitXor x b)) dead) ≡ dead → ⊥)
+      → Stepped (body x) b
   body-alive true u e f n = step-star e
   body-alive false true e f n = step-byte e f
   body-alive false false e f n = absurd (n refl)

@@ -1,4 +1,5 @@
--- Any reader that takes lines in order and refuses a line that fails the line rule with that number at field 0: what it accepts, with one byte
+-- Any reader that takes lines in order and refuses a line that fails the line rule with that number at field 0: what it accepts, with one
+-- byte
 -- changed, dropped or added, is refused with 1 or 2 at the first line that is new or no longer as it was.
 use Prim.Native.Nat.{ℕ, suc, _+_, _-_}
 use mathlib.Core.Path.{_≡_, refl, sym, _∙_, ap}
@@ -44,7 +45,8 @@ module _ {S A : Type 0} (refused : ℕ → ℕ → ℕ → A) (read : S → ℕ 
       go true e = eqb-true (lineRefusal l) 0 e
       go false e = absurd (n (lineRefusal l) k 0 (o .fails q k l ls (eqb-false (lineRefusal l) 0 e)))
 
-  onto : (q : S) (k : ℕ) (l : List ℕ) (ls : List (List ℕ)) (n : NotRefused refused (read q k (l ∷ ls))) → NotRefused refused (read (o .goes q k l ls n .0) (k + 1) ls)
+  onto : (q : S) (k : ℕ) (l : List ℕ) (ls : List (List ℕ)) (n : NotRefused refused (read q k (l ∷ ls)))
+      → NotRefused refused (read (o .goes q k l ls n .0) (k + 1) ls)
   onto q k l ls n a b c e = n a b c (o .goes q k l ls n .1 ls ∙ e)
 
   -- what is accepted are lines that pass
@@ -60,7 +62,8 @@ module _ {S A : Type 0} (refused : ℕ → ℕ → ℕ → A) (read : S → ℕ 
   read-fault (later l ls ms j f) q k n =
       o .goes q k l ls n .1 ms ∙ read-fault f (o .goes q k l ls n .0) (k + 1) (onto q k l ls n) ∙ rw (shift k j)
 
-  pub one-byte-caught : (q : S) {g h : List ℕ} → OneByte g h → NotRefused refused (read q 1 (cutLines g)) → Caught refused (cutLines g) (cutLines h) (read q 1 (cutLines h))
+  pub one-byte-caught : (q : S) {g h : List ℕ} → OneByte g h → NotRefused refused (read q 1 (cutLines g))
+      → Caught refused (cutLines g) (cutLines h) (read q 1 (cutLines h))
   one-byte-caught q {g} {h} d n =
       let f = edit-found d (read-lines q 1 (cutLines g) n) in
       let p = fault-first (f .1) in
@@ -90,7 +93,8 @@ module _ {S A : Type 0} (refused : ℕ → ℕ → ℕ → A) (rule : S → ℕ 
         goes = λ q k l ls n. go q k l ls n (rule q k l) refl;
       }
     where
-      go : (q : S) (k : ℕ) (l : List ℕ) (ls : List (List ℕ)) → NotRefused refused (readFrom refused rule finish q k (l ∷ ls)) → (t : Step S) → rule q k l ≡ t
+      go : (q : S) (k : ℕ) (l : List ℕ) (ls : List (List ℕ)) → NotRefused refused (readFrom refused rule finish q k (l ∷ ls))
+          → (t : Step S) → rule q k l ≡ t
           → (r : S) × ((ms : List (List ℕ)) → readFrom refused rule finish q k (l ∷ ms) ≡ readFrom refused rule finish r (k + 1) ms)
       go q k l ls n (next r) e = (r, λ ms. reads-on q k l ms (next r) e)
       go q k l ls n (stop a f) e = absurd (n a k f (reads-on q k l ls (stop a f) e))

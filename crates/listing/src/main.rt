@@ -24,7 +24,8 @@ fn is_full(out: &[u8], place: usize) -> bool {
 
 // Puts the row of one line.
 fn list_line(out: &mut [u8], place: usize, number: u64, line: &[u8], dumps: bool) -> usize
-    ensures { λ r. ⌜ Puts (held place (now (out .entry))) (rowText number (now (line .entry)) (readLine (now (line .entry))) dumps) (held r (now (out .exit))) ⌝ }
+    ensures { λ r. ⌜ Puts (held place (now (out .entry))) (rowText number (now (line .entry)) (readLine (now (line .entry))) dumps)
+        (held r (now (out .exit))) ⌝ }
 {
     let reading = reading::read_line(line);
     rows::put_row(out, place, number, line, reading, dumps)

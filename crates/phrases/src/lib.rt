@@ -7,7 +7,8 @@ ghost use mir.Syntax.{w32};
 ghost use mir.Val.{toZ};
 ghost use Rattle.digits.specs.Decimal.{printFixed};
 ghost use Rattle.put.specs.Wrote.{held, Puts};
-ghost use Rattle.phrases.specs.Phrases.{angleWords, clockWords, counted, dateWords, either, heightWords, hoursWords, isMinus, measureText, placeWords, signedText, variationWords, zoneWords};
+ghost use Rattle.phrases.specs.Phrases.{angleWords, clockWords, counted, dateWords, either, heightWords, hoursWords, isMinus};
+ghost use Rattle.phrases.specs.Phrases.{measureText, placeWords, signedText, variationWords, zoneWords};
 
 // A signed value without its sign.
 fn size(n: u32) -> u32

@@ -89,13 +89,15 @@ unfolding putOne
 put-within h b i = go (ltb (h .place) (length (h .bytes))) refl
   where
     go : (t : Bool) → ltb (h .place) (length (h .bytes)) ≡ t
-        → pick t (held (suc (h .place)) (set (h .bytes) (h .place) b)) h .place ≤ length (pick t (held (suc (h .place)) (set (h .bytes) (h .place) b)) h .bytes)
+        → pick t (held (suc (h .place)) (set (h .bytes) (h .place) b)) h .place ≤ length
+        (pick t (held (suc (h .place)) (set (h .bytes) (h .place) b)) h .bytes)
     go true e = rw (length-set (h .bytes) (h .place) b) (ltb-true _ _ e)
     go false e = i
 
 -- What stands before the place, after one byte and after a text: what stood there, and the new bytes behind it, cut at the end.
 put-text : (h : Held) (b : ℕ) (s : List ℕ) → h .place ≤ length (h .bytes)
-    → take (length (h .bytes)) (take (putOne h b .place) (putOne h b .bytes) ++ s) ≡ take (length (h .bytes)) (take (h .place) (h .bytes) ++ (b ∷ s))
+    → take (length (h .bytes)) (take (putOne h b .place) (putOne h b .bytes) ++ s) ≡ take (length (h .bytes))
+    (take (h .place) (h .bytes) ++ (b ∷ s))
 unfolding putOne
 put-text h b s i = go (ltb (h .place) (length (h .bytes))) refl
   where
@@ -103,12 +105,14 @@ put-text h b s i = go (ltb (h .place) (length (h .bytes))) refl
     d = h .bytes
 
     go : (t : Bool) → ltb (h .place) (length (h .bytes)) ≡ t
-        → take (length (h .bytes)) (take (pick t (held (suc (h .place)) (set (h .bytes) (h .place) b)) h .place) (pick t (held (suc (h .place)) (set (h .bytes) (h .place) b)) h .bytes) ++ s)
+        → take (length (h .bytes)) (take (pick t (held (suc (h .place)) (set (h .bytes) (h .place) b)) h .place)
+        (pick t (held (suc (h .place)) (set (h .bytes) (h .place) b)) h .bytes) ++ s)
         ≡ take (length (h .bytes)) (take (h .place) (h .bytes) ++ (b ∷ s))
     go true e = rw (take-suc-set (h .bytes) (h .place) b (ltb-true _ _ e), append-assoc)
     go false e =
         let q : h .place ≡ length (h .bytes) = omega (arith, ltb-false (h .place) (length (h .bytes)) e) in
-        rw (q, take-all (length (h .bytes)) (h .bytes) (omega arith)) (take-at (h .bytes) s _ refl ∙ sym (take-at (h .bytes) (b ∷ s) _ refl))
+        rw (q, take-all (length (h .bytes)) (h .bytes) (omega arith))
+        (take-at (h .bytes) s _ refl ∙ sym (take-at (h .bytes) (b ∷ s) _ refl))
 
 wrote-text : (h : Held) (s : List ℕ) → h .place ≤ length (h .bytes)
     → take (wrote h s .place) (wrote h s .bytes) ≡ take (length (h .bytes)) (take (h .place) (h .bytes) ++ s)
@@ -135,7 +139,8 @@ unfolding wrote
 put-end s i h l = rw (drop-of-length-le s l)
 
 -- Where there is room for all of it: the text stands at the place, and the bytes around it stay.
-pub put-fits : (p : ℕ) (d s : List ℕ) → p + length s ≤ length d → wrote (held p d) s ≡ held (p + length s) (take p d ++ (s ++ drop (p + length s) d))
+pub put-fits : (p : ℕ) (d s : List ℕ) → p + length s ≤ length d
+    → wrote (held p d) s ≡ held (p + length s) (take p d ++ (s ++ drop (p + length s) d))
 unfolding wrote putOne
 put-fits p d [] h = rw (add-zero p, take-append-drop p d)
 put-fits p d (b ∷ s) h =
@@ -169,7 +174,8 @@ pub two-room : (p v : ℕ) (d : List ℕ) → p + 2 ≤ length d
 unfolding printFixed
 two-room p v d h =
     let e : p + 2 ≡ p + 1 + 1 = omega arith in
-    rw e (put-room p d (48 + v / 10 % 10) (omega arith) ⨾ put-room (p + 1) (set d p (48 + v / 10 % 10)) (48 + v % 10) (rw (length-set d p (48 + v / 10 % 10)) (omega arith)))
+    rw e (put-room p d (48 + v / 10 % 10) (omega arith)
+    ⨾ put-room (p + 1) (set d p (48 + v / 10 % 10)) (48 + v % 10) (rw (length-set d p (48 + v / 10 % 10)) (omega arith)))
 
 pub two-digits : {h g k : Held} (v : ℕ) → Puts h ((48 + v / 10 % 10) ∷ []) g → Puts g ((48 + v % 10) ∷ []) k → Puts h (printFixed 2 v) k
 unfolding printFixed

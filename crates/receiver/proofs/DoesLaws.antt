@@ -1,4 +1,5 @@
--- The ways out of a command: refused, it hands back the old settings and leaves the output; with its reply written, or refused for its room,
+-- The ways out of a command: refused, it hands back the old settings and leaves the output; with its reply written, or refused for its
+-- room,
 -- the writer's answer decides.
 use Prim.Native.Nat.{ℕ}
 use mathlib.Core.Path.{_∙_, _≡_, ap, refl}
@@ -11,8 +12,10 @@ use Rattle.receiver.specs.declared.Done.{Done}
 use Rattle.receiver.specs.declared.Settings.{Settings}
 use Rattle.receiver.specs.Command.{Does, handedOver, Outcome, refuses, replies}
 
-pub does-refuse : (s : Settings) (o : Outcome) (out : List ℕ) (d : Done) (n k f : ℕ) → d ≡ record { written = refused n k f; settings = s } → o ≡ refuses n k f → Does s o out d out
-does-refuse s o out d n k f e q = rw q (record { answers = ap (λ (x : Done). x .written) e; settings = ap (λ (x : Done). x .settings) e; leaves = refl })
+pub does-refuse : (s : Settings) (o : Outcome) (out : List ℕ) (d : Done) (n k f : ℕ)
+    → d ≡ record { written = refused n k f; settings = s } → o ≡ refuses n k f → Does s o out d out
+does-refuse s o out d n k f e q =
+    rw q (record { answers = ap (λ (x : Done). x .written) e; settings = ap (λ (x : Done). x .settings) e; leaves = refl })
 
 pub does-reply : (s after : Settings) (fault : Written) (body out : List ℕ) (w : Written) (left : List ℕ) (d : Done)
     → Writes fault body out w left → d ≡ handedOver w s after → Does s (replies after fault body) out d left

@@ -12,7 +12,8 @@ second-is s zero h = absurd (h refl)
 second-is s (suc n) h = refl
 
 pub with-second : (s : Settings) (n : ℕ) (p : Port) → (n ≡ 0 → ⊥)
-    → record { first = s .first; second = p; datum = s .datum; zone = s .zone; gps = s .gps; glonass = s .glonass; code = s .code } ≡ withPort s n p
+    → record { first = s .first; second = p; datum = s .datum; zone = s .zone; gps = s .gps; glonass = s .glonass; code = s .code } ≡
+    withPort s n p
 with-second s zero p h = absurd (h refl)
 with-second s (suc n) p h = refl
 
@@ -20,6 +21,7 @@ pub counts-wrong : (s : Settings) → settingsGood s ≡ false → record { no =
 unfolding countsOf
 counts-wrong s e = rw e
 
-pub counts-right : (s : Settings) → settingsGood s ≡ true → record { no = 0; line = 0; field = 0; gps = ones (s .gps); glonass = ones (s .glonass) } ≡ countsOf s
+pub counts-right : (s : Settings) → settingsGood s ≡ true
+    → record { no = 0; line = 0; field = 0; gps = ones (s .gps); glonass = ones (s .glonass) } ≡ countsOf s
 unfolding countsOf
 counts-right s e = rw e

@@ -42,7 +42,15 @@ afterPort s arrival r = pick (r .rate .there) (withPort s (namedPort arrival r) 
 abbrev pub afterDatum : Settings → DatumAsked → Settings
 afterDatum s r =
     pick (r .datum .there)
-    (record { first = s .first; second = s .second; datum = r .datum .value; zone = r .zone .minutes; gps = s .gps; glonass = s .glonass; code = s .code })
+    (record {
+      first = s .first;
+      second = s .second;
+      datum = r .datum .value;
+      zone = r .zone .minutes;
+      gps = s .gps;
+      glonass = s .glonass;
+      code = s .code;
+    })
     s
 
 -- PIRSR: an empty mask is no change.
@@ -107,7 +115,8 @@ sentenceOutcome s arrival (S.Ta r) = refuses 9 1 0
 sentenceOutcome s arrival (S.Sa r) = refuses 9 1 0
 sentenceOutcome s arrival (S.Ea r) = refuses 9 1 0
 
--- In order: 5 with line 0 and field 0 if the arrival port is not 0 or 1 or a setting is out of range; then 10, before the line is looked at.
+-- In order: 5 with line 0 and field 0 if the arrival port is not 0 or 1 or a setting is out of range; then 10, before the line is looked
+-- at.
 unfoldable pub outcomeOf : Settings → ℕ → List ℕ → Outcome
 outcomeOf s arrival line =
     pick (ltb arrival 2 && settingsGood s)

@@ -14,7 +14,8 @@ ghost use mathlib.Core.Bool.{cond};
 ghost use mathlib.Core.Path.{_≡_};
 ghost use Rattle.frame.specs.Written.{refused};
 ghost use Rattle.reading.specs.Lines.{readLine};
-ghost use Rattle.receiver.specs.Command.{afterDatum, afterMasks, afterPort, codeReply, datumReply, datumTold, Does, handedOver, masksReply, namedPort, outcomeOf, portReply, portTold, sentenceOutcome};
+ghost use Rattle.receiver.specs.Command.{afterDatum, afterMasks, afterPort, codeReply, datumReply, datumTold, Does, handedOver};
+ghost use Rattle.receiver.specs.Command.{masksReply, namedPort, outcomeOf, portReply, portTold, sentenceOutcome};
 
 // What one port is set to.
 pub struct Port {

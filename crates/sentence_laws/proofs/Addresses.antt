@@ -37,7 +37,8 @@ module _ {A : Type 0} (text : A → List ℕ) where
   found-text a [] v r e = nothing v e
   found-text a (n ∷ ns) v r e = go (same a (n .bytes)) refl e (found-text a ns v (r .1))
     where
-      go : (t : Bool) → same a (n .bytes) ≡ t → pick t (some (n .thing)) (lookUp a ns) ≡ some v → (lookUp a ns ≡ some v → a ≡ text v) → a ≡ text v
+      go : (t : Bool) → same a (n .bytes) ≡ t → pick t (some (n .thing)) (lookUp a ns) ≡ some v → (lookUp a ns ≡ some v → a ≡ text v)
+          → a ≡ text v
       go true q i ih = let s : n .thing ≡ v = cc in same-true a (n .bytes) q ∙ r .0 ∙ ap text s
       go false q i ih = ih i
 
@@ -64,7 +65,8 @@ module _ (t : Talker) (k : Kind) where
   unfolding knownOf
   known-is a e = by-talker (talkerOf (take 2 a)) refl e
     where
-      by-kind : (u : Talker) → talkerOf (take 2 a) ≡ some u → (o : Option Kind) → kindOf (drop 2 a) ≡ o → standard u o ≡ Standard t k → a ≡ talkerText t ++ kindText k
+      by-kind : (u : Talker) → talkerOf (take 2 a) ≡ some u → (o : Option Kind) → kindOf (drop 2 a) ≡ o → standard u o ≡ Standard t k
+          → a ≡ talkerText t ++ kindText k
       by-kind u p (some j) q i =
           let x : u ≡ t = cc in
           let y : j ≡ k = cc in
@@ -101,5 +103,6 @@ address-same body t k e = go (eqb (getD body 5 0) 44 && commaFree (take 5 body))
     go : (b : Bool) → (eqb (getD body 5 0) 44 && commaFree (take 5 body)) ≡ b → pick b (knownOf (take 5 body)) Unknown ≡ Standard t k
         → theFields body 0 ≡ talkerText t ++ kindText k
     go true q i =
-        first-is 5 body (eqb-true (getD body 5 0) 44 (and-left _ _ q)) (and-right (eqb (getD body 5 0) 44) _ q) ∙ known-is t k (take 5 body) i
+        first-is 5 body (eqb-true (getD body 5 0) 44 (and-left _ _ q)) (and-right (eqb (getD body 5 0) 44) _ q)
+        ∙ known-is t k (take 5 body) i
     go false q i = unknown-not t k i

@@ -30,6 +30,8 @@ not-refused a t es e n k f r = true≢false (sym (ap isWhole e) ∙ ap isWhole r
 
 -- One byte changed, dropped or added anywhere in the bytes of a whole group: it is no group, and is refused with 1 or 2 at the first line
 -- that is new or no longer as it was.
-pub damage-caught : {g h : List ℕ} (t : Talker) (es : List Entry) → OneByte g h → groupOf g ≡ whole t es → Caught refused (cutLines g) (cutLines h) (groupOf h)
+pub damage-caught : {g h : List ℕ} (t : Talker) (es : List Entry) → OneByte g h → groupOf g ≡ whole t es
+    → Caught refused (cutLines g) (cutLines h) (groupOf h)
 unfolding groupOf
-damage-caught {g} {h} t es d e = Point3.point-three refused rule ended line-first none d (not-refused (readLines refused rule ended none g) t es e)
+damage-caught {g} {h} t es d e = Point3.point-three refused rule ended line-first none d
+    (not-refused (readLines refused rule ended none g) t es e)

@@ -28,7 +28,8 @@ or-assoc false b c = refl
 numbered-append : (n : ℕ) (es : List Entry) (e : Entry) → numbered n (es ++ (e ∷ [])) ≡ (numbered n es || eqb (e .number) n)
 unfolding numbered
 numbered-append n [] e = or-swap false (eqb (e .number) n)
-numbered-append n (x ∷ es) e = ap (λ (b : Bool). eqb (x .number) n || b) (numbered-append n es e) ∙ or-assoc (eqb (x .number) n) (numbered n es) (eqb (e .number) n)
+numbered-append n (x ∷ es) e = ap (λ (b : Bool). eqb (x .number) n || b) (numbered-append n es e)
+    ∙ or-assoc (eqb (x .number) n) (numbered n es) (eqb (e .number) n)
 
 -- A mark is 1 exactly where the number is there.
 mark-test : (b : Bool) (m : ℕ) → m ≡ cond b 1 0 → eqb m 1 ≡ b
@@ -56,7 +57,8 @@ module _ (es : List Entry) (seen : List ℕ) (m : Marks es seen) (e : Entry) (h 
       go : (b : Bool) → eqb (e .number) n ≡ b → getD (set seen (e .number) 1) n 0 ≡ cond (numbered n (es ++ (e ∷ []))) 1 0
       go true q =
           let p : e .number ≡ n = eqb-true (e .number) n q in
-          let one : getD (set seen (e .number) 1) n 0 ≡ 1 = subst (λ (j : ℕ). getD (set seen (e .number) 1) j 0 ≡ 1) p (getD-set-same seen (e .number) 1 0 h) in
+          let one : getD (set seen (e .number) 1) n 0 ≡ 1 = subst (λ (j : ℕ). getD (set seen (e .number) 1) j 0 ≡ 1) p
+          (getD-set-same seen (e .number) 1 0 h) in
           one ∙ sym (ap (λ (b : Bool). cond b 1 0) (numbered-append n es e ∙ or-true (numbered n es) (eqb (e .number) n) q))
       go false q =
           getD-set-other seen (e .number) n 1 0 (λ z. absurd-eq z)

@@ -1,4 +1,5 @@
--- The bytes in which a group's reader and writer mark the satellite numbers that it has had. Nothing here is needed to know what a group is.
+-- The bytes in which a group's reader and writer mark the satellite numbers that it has had. Nothing here is needed to know what a group
+-- is.
 use Prim.Native.Nat.{_<_, ℕ}
 use mathlib.Core.Path.{_≡_}
 use mathlib.Core.List.{List}

@@ -87,7 +87,8 @@ below-next : (k : ℕ) (es : List Entry) → Below k es → Below (k + 1) (es ++
 unfolding numbered
 below-next k [] b n h = rw (ne-eqb k n (λ e. omega arith))
 below-next k (e ∷ es) b n h =
-    or-none (eqb (e .number) n) _ (none-left _ _ (b n (omega arith))) (below-next k es (λ m i. none-right (eqb (e .number) m) _ (b m i)) n h)
+    or-none (eqb (e .number) n) _ (none-left _ _ (b n (omega arith)))
+    (below-next k es (λ m i. none-right (eqb (e .number) m) _ (b m i)) n h)
 
 plains-once : (m k : ℕ) (before : List Entry) → Below k before → repeats before (plains k m) ≡ false
 unfolding repeats
@@ -106,5 +107,8 @@ plains-in-range n h =
 -- There are groups of every number of entries from 0 to 36.
 pub every-count : (n : ℕ) → n ≤ 36 → (g : List ℕ) × (x : IsGroup g) × (length (x .entries) ≡ n)
 every-count n h =
-    let s = plains-in-range n h in
-    (groupText Gp (tableOf (plains 1 n)), record { talker = Gp; entries = plains 1 n; reads = list-back Gp (plains 1 n) s }, plains-many n 1)
+    let s = plains-in-range n h in (
+      groupText Gp (tableOf (plains 1 n)),
+      record { talker = Gp; entries = plains 1 n; reads = list-back Gp (plains 1 n) s },
+      plains-many n 1,
+    )

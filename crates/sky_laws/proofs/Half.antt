@@ -1,4 +1,5 @@
--- A group has to be read to its last line. Its lines up to one before the last are no group: each is taken as before, and where they end the
+-- A group has to be read to its last line. Its lines up to one before the last are no group: each is taken as before, and where they end
+-- the
 -- announced last line is still to come. And the first line alone does not say what the group is: two groups of five satellites differ only
 -- in the fifth, which stands on line 2.
 use Prim.Native.Nat.{_+_, _<_, _≤_, ℕ}
@@ -50,7 +51,8 @@ module _ (t : Talker) (es : List Entry) where
   half (a ∷ ls) l ms q k e =
       let x = took t es q k a (ls ++ (l ∷ ms)) e in
       let s : Seen = seen q (x .talker) (readLine a .gsv) in
-      read-on q k a ls s (took-next t es q k a (ls ++ (l ∷ ms)) x) ∙ half ls l ms (some s) (k + 1) (x .rest) ∙ ap (λ (n : ℕ). refused 6 n 0) (omega arith)
+      read-on q k a ls s (took-next t es q k a (ls ++ (l ∷ ms)) x) ∙ half ls l ms (some s) (k + 1) (x .rest)
+      ∙ ap (λ (n : ℕ). refused 6 n 0) (omega arith)
 
   -- Each line of a whole group ends with its only LF, and so do the first of them.
   all-end : (ls ms : List (List ℕ)) (q : Option Seen) (k : ℕ) → answerFrom q k (ls ++ ms) ≡ whole t es → Endings ls
@@ -79,7 +81,12 @@ groupFive k = groupText Gp (tableOf (five k))
 
 five-in-range : (k : ℕ) → 1 ≤ k → k ≤ 99 → repeats [] (five k) ≡ false → InRange (five k)
 five-in-range k a b o =
-    record { few = lit≤ tt; each = good-append (plains 1 4) (plain k ∷ []) (plains-in-range 4 (lit≤ tt) .each) (plain-good k a b, tt); once = o }
+    record {
+      few = lit≤ tt;
+      each = good-append (plains 1 4) (plain k ∷ []) (plains-in-range 4 (lit≤ tt) .each)
+          (plain-good k a b, tt);
+      once = o;
+    }
 
 in-five : InRange (five 5)
 unfolding repeats numbered
@@ -101,6 +108,7 @@ fifth (refused n k f) = 0
 -- No answer from the first line alone is the group's.
 pub not-line-one : (P : List ℕ → Answer) → ((g : List ℕ) → groupOf g ≡ P (lineOf (cutLines g) 1)) → ⊥
 not-line-one P h =
-    let a : groupOf (groupFive 5) ≡ groupOf (groupFive 6) = h (groupFive 5) ∙ ap P (first-line 5 in-five ∙ sym (first-line 6 in-six)) ∙ sym (h (groupFive 6)) in
+    let a : groupOf (groupFive 5) ≡ groupOf (groupFive 6) = h (groupFive 5) ∙ ap P (first-line 5 in-five ∙ sym (first-line 6 in-six))
+    ∙ sym (h (groupFive 6)) in
     let b : _≡_ {A = ℕ} 5 6 = ap fifth (sym (list-back Gp (five 5) in-five) ∙ a ∙ list-back Gp (five 6) in-six) in
     omega (arith, b)

@@ -32,4 +32,5 @@ length-four l = go (ltb 4 (length l)) refl
 pub next-four : {A : Type 0} (l : List A) (k : ℕ) → entriesAt (length l) k ≡ length (take 4 (drop (4 * (k - 1)) l))
 next-four l k =
     entries-at (length l) k
-    ∙ sym (subst (λ (m : ℕ). length (take 4 (drop (4 * (k - 1)) l)) ≡ m - (m - 4)) (length-drop (4 * (k - 1)) l) (length-four (drop (4 * (k - 1)) l)))
+    ∙ sym (subst (λ (m : ℕ). length (take 4 (drop (4 * (k - 1)) l)) ≡ m - (m - 4)) (length-drop (4 * (k - 1)) l)
+    (length-four (drop (4 * (k - 1)) l)))

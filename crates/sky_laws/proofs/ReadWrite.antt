@@ -42,7 +42,8 @@ gsv-passes l t e = go (eqb (lineRefusal l) 0) refl
     go : (b : Bool) → eqb (lineRefusal l) 0 ≡ b → lineRefusal l ≡ 0
     go true q = eqb-true (lineRefusal l) 0 q
     go false q =
-        let x : readLine l .sentence ≡ S.Refused (lineRefusal l) 0 = ap (λ (r : Reading). r .sentence) (Order.refused l (eqb-false (lineRefusal l) 0 q)) in
+        let x : readLine l .sentence ≡ S.Refused (lineRefusal l) 0 =
+        ap (λ (r : Reading). r .sentence) (Order.refused l (eqb-false (lineRefusal l) 0 q)) in
         let z : _≡_ {A = ℕ} 0 1 = cc in
         let y : ⊥ = omega arith in absurd y
 
@@ -96,7 +97,8 @@ module _ (t : Talker) (es : List Entry) (s : InRange es) where
     fresh : repeats (upTo k) (usedOf line) ≡ false
     fresh =
         let a : repeats [] (upTo k ++ left) ≡ false = ap (repeats []) (take-append-drop (4 * (k - 1)) es) ∙ s .once in
-        let b : repeats (upTo k) (take 4 left ++ drop 4 left) ≡ false = ap (repeats (upTo k)) (take-append-drop 4 left) ∙ once-behind [] (upTo k) left a in
+        let b : repeats (upTo k) (take 4 left ++ drop 4 left) ≡ false = ap (repeats (upTo k)) (take-append-drop 4 left)
+        ∙ once-behind [] (upTo k) left a in
         ap (repeats (upTo k)) uses ∙ once-front (upTo k) (take 4 left) (drop 4 left) b
 
     -- So a reader that is before line k takes it.
@@ -131,7 +133,8 @@ module _ (t : Talker) (es : List Entry) (s : InRange es) where
   run (suc m) k from e =
       let q = some (seenBefore k) in
       let to : k ≤ last = omega arith in
-      read-on q k (written k) (linesOn (k + 1) m) (seenBefore (k + 1)) (taken k from to q refl (later k from to)) ∙ run m (k + 1) (omega arith) (omega arith)
+      read-on q k (written k) (linesOn (k + 1) m) (seenBefore (k + 1)) (taken k from to q refl (later k from to))
+      ∙ run m (k + 1) (omega arith) (omega arith)
 
   all-end : (m k : ℕ) → 1 ≤ k → k + m ≤ last + 1 → Endings (linesOn k m)
   all-end zero k from to = tt
@@ -159,6 +162,8 @@ module _ (t : Talker) (es : List Entry) (s : InRange es) where
       ∙ run (last - 1) 2 (lit≤ tt) (omega (arith, p))
 
 -- A table in range is read back as the same table from what was written.
-pub read-write : (t : Talker) (r : Table) → length (r .entries) ≡ 36 → tableFault r .no ≡ 0 → groupOf (groupText t r) ≡ whole t (take (r .count) (r .entries))
+pub read-write : (t : Talker) (r : Table) → length (r .entries) ≡ 36 → tableFault r .no ≡ 0
+    → groupOf (groupText t r) ≡ whole t (take (r .count) (r .entries))
 read-write t r places fault =
-    ap (λ (x : Table). groupOf (groupText t x)) (sym (of-used r places fault)) ∙ list-back t (take (r .count) (r .entries)) (used-in-range r places fault)
+    ap (λ (x : Table). groupOf (groupText t x)) (sym (of-used r places fault))
+    ∙ list-back t (take (r .count) (r .entries)) (used-in-range r places fault)

@@ -26,7 +26,8 @@ use Rattle.sky.specs.Group.{sameTalker, Seen, seen, talkerNo, usedOf, whole}
 abbrev pub answerFrom : Option Seen → ℕ → List (List ℕ) → Answer
 answerFrom q k ls = readFrom refused rule ended q k ls
 
-pub read-on : (q : Option Seen) (k : ℕ) (l : List ℕ) (ls : List (List ℕ)) (s : Seen) → rule q k l ≡ next (some s) → answerFrom q k (l ∷ ls) ≡ answerFrom (some s) (k + 1) ls
+pub read-on : (q : Option Seen) (k : ℕ) (l : List ℕ) (ls : List (List ℕ)) (s : Seen) → rule q k l ≡ next (some s)
+    → answerFrom q k (l ∷ ls) ≡ answerFrom (some s) (k + 1) ls
 unfolding readFrom
 read-on q k l ls s e = ap (λ (x : Step (Option Seen)). onward refused x k (λ (r : Option Seen). answerFrom r (k + 1) ls)) e
 
@@ -53,7 +54,8 @@ module _ (t : Talker) (es : List Entry) (q : Option Seen) (k : ℕ) (l : List �
   unfolding gsvRule
   took-gsv u p = go (follows q k u v) (repeats (entriesOf q) (usedOf v)) refl refl
     where
-      go : (a b : Bool) → follows q k u v ≡ a → repeats (entriesOf q) (usedOf v) ≡ b → Leads (pick a (pick b (stop 7 0) (next (some (seen q u v)))) (stop 6 0)) → Took t es q k l ls
+      go : (a b : Bool) → follows q k u v ≡ a → repeats (entriesOf q) (usedOf v) ≡ b
+          → Leads (pick a (pick b (stop 7 0) (next (some (seen q u v)))) (stop 6 0)) → Took t es q k l ls
       go true true f g i = absurd (no-whole 7 k 0 t es i)
       go true false f g i = record { talker = u; reads = p; right = f; fresh = g; rest = i }
       go false b f g i = absurd (no-whole 6 k 0 t es i)
@@ -144,8 +146,10 @@ module _ (t : Talker) (es : List Entry) (l : List ℕ) (ls : List (List ℕ)) wh
   abbrev said : Talker → List Entry → Option Seen
   said u before = some (record { talker = u; lines = line .lines; satellites = line .satellites; entries = before })
 
-  made : (u : Talker) (n k : ℕ) (before : List Entry) → readLine l .sentence ≡ S.Gsv u → line .lines ≡ linesFor n → line .satellites ≡ n → inPlace k line ≡ true
-      → repeats before (usedOf line) ≡ false → answerFrom (said u (before ++ usedOf line)) (k + 1) ls ≡ whole t es → Next t es u n k before l ls
+  made : (u : Talker) (n k : ℕ) (before : List Entry) → readLine l .sentence ≡ S.Gsv u → line .lines ≡ linesFor n → line .satellites ≡ n
+      → inPlace k line ≡ true
+      → repeats before (usedOf line) ≡ false → answerFrom (said u (before ++ usedOf line)) (k + 1) ls ≡ whole t es
+      → Next t es u n k before l ls
   made u n k before r a b h f e =
       record {
         taken = record {
@@ -168,7 +172,8 @@ module _ (t : Talker) (es : List Entry) (l : List ℕ) (ls : List (List ℕ)) wh
       let h = and-right (eqb (line .lines) (linesFor (line .satellites))) _ (x .right) in
       (x .talker, made (x .talker) (line .satellites) 1 [] (x .reads) a refl h (x .fresh) (x .rest))
 
-  pub next-line : (u : Talker) (n k : ℕ) (before : List Entry) → answerFrom (seenSo u n before) k (l ∷ ls) ≡ whole t es → Next t es u n k before l ls
+  pub next-line : (u : Talker) (n k : ℕ) (before : List Entry) → answerFrom (seenSo u n before) k (l ∷ ls) ≡ whole t es
+      → Next t es u n k before l ls
   unfolding follows
   next-line u n k before e =
       let x = took t es (seenSo u n before) k l ls e in

@@ -79,7 +79,8 @@ no-bytes s h =
     let first : rule none 1 [] ≡ stop 1 0 = line-first none 1 [] (λ z. omega (arith, one, z)) ∙ ap (λ (n : ℕ). stop n 0) one in
     ap skyOf (sym (read-none refused rule ended s none h 1 0 first))
 
-pub begins : (s : List ℕ) (e : Entry) (h : Head) → 0 < length s → e ≡ blankEntry → h ≡ notBegun → Going s (replicate 36 e) (replicate 100 0) h 0 1
+pub begins : (s : List ℕ) (e : Entry) (h : Head) → 0 < length s → e ≡ blankEntry → h ≡ notBegun
+    → Going s (replicate 36 e) (replicate 100 0) h 0 1
 unfolding groupOf
 begins s e h l p q = subst (λ (x : Head). Going s (replicate 36 e) (replicate 100 0) x 0 1) (sym q) (record {
   es = [];
@@ -99,7 +100,8 @@ module _ (s : List ℕ) (entries : List Entry) (seen : List ℕ) (head : Head) (
     -- A line that ends the group.
     pub stops : (n f : ℕ) → r .next ≡ Stop n f → refusedSky n k f ≡ skyOf (groupOf s)
     stops n f q =
-        let i : stop n f ≡ rule (seenOf head (g .es)) k (take (e - at) (drop at s)) = sym (ap (λ x. stepOf x (seenOf head (g .es)) (r .gsv)) q) ∙ st .ruled (g .es) (g .before) in
+        let i : stop n f ≡ rule (seenOf head (g .es)) k (take (e - at) (drop at s)) =
+        sym (ap (λ x. stepOf x (seenOf head (g .es)) (r .gsv)) q) ∙ st .ruled (g .es) (g .before) in
         ap skyOf (sym (g .reads ∙ read-stop refused rule ended s (seenOf head (g .es)) at k e h p (stop n f) i n f refl))
 
     module _ (t : Talker) (q : r .next ≡ Taken t) where
@@ -112,7 +114,8 @@ module _ (s : List ℕ) (entries : List Entry) (seen : List ℕ) (head : Head) (
       pub sized : Sized k (length (g .es)) t (r .gsv)
       sized = follows-sized k (length (g .es)) t (r .gsv) is-sound head (g .es) (is-taken .fits) (g .size)
 
-      reads-on : groupOf s ≡ readFrom refused rule ended (seenOf (headOf t (r .gsv)) (entriesOf (seenOf head (g .es)) ++ usedOf (r .gsv))) (k + 1) (cutRest (drop e s))
+      reads-on : groupOf s ≡ readFrom refused rule ended (seenOf (headOf t (r .gsv)) (entriesOf (seenOf head (g .es)) ++ usedOf (r .gsv)))
+          (k + 1) (cutRest (drop e s))
       reads-on =
           let i = sym (ap (λ x. stepOf x (seenOf head (g .es)) (r .gsv)) q) ∙ st .ruled (g .es) (g .before) in
           g .reads
@@ -133,7 +136,8 @@ module _ (s : List ℕ) (entries : List Entry) (seen : List ℕ) (head : Head) (
           → Going s stored left h′ e (k + 1)
       goes-on h′ b = subst (λ (x : Head). Going s stored left x e (k + 1)) (sym b) (record {
         es = g .es ++ usedOf (r .gsv);
-        reads = reads-on ∙ ap (λ (l : List Entry). readFrom refused rule ended (seenOf (headOf t (r .gsv)) (l ++ usedOf (r .gsv))) (k + 1) (cutRest (drop e s))) (g .before .0);
+        reads = reads-on ∙ ap (λ (l : List Entry). readFrom refused rule ended (seenOf (headOf t (r .gsv)) (l ++ usedOf (r .gsv))) (k + 1)
+            (cutRest (drop e s))) (g .before .0);
         places = placed (r .gsv) is-sound (g .es) place (sized .behind) (omega (arith, sized .to-nine)) entries (g .places);
         before = (refl, is-taken .marks);
         long = st .kept ∙ g .long;
@@ -141,7 +145,9 @@ module _ (s : List ℕ) (entries : List Entry) (seen : List ℕ) (head : Head) (
       })
         where
           length-used : length (g .es ++ usedOf (r .gsv)) ≡ length (g .es) + r .gsv .count
-          length-used = length-append (g .es) (usedOf (r .gsv)) ∙ ap (λ (n : ℕ). length (g .es) + n) (used-length (r .gsv) is-sound (g .es) place (sized .behind) (omega (arith, sized .to-nine)))
+          length-used = length-append (g .es) (usedOf (r .gsv))
+              ∙ ap (λ (n : ℕ). length (g .es) + n)
+              (used-length (r .gsv) is-sound (g .es) place (sized .behind) (omega (arith, sized .to-nine)))
 
   -- The lines end, as they must or too soon.
   end-by : Begun head k (length (g .es)) → (b : Bool) → eqb (head .lines + 1) k ≡ b
@@ -150,10 +156,25 @@ module _ (s : List ℕ) (entries : List Entry) (seen : List ℕ) (head : Head) (
   end-by z true q =
       let last = eqb-true (head .lines + 1) k q in
       let all : head .satellites ≡ length (g .es) = omega (arith, last, z .least, z .announced, room (head .satellites)) in
-      ap (λ (n : ℕ). record { no = 0; line = 0; field = 0; talker = Of (head .talker); table = record { count = n; entries = entries } }) all
-      ∙ ap (λ (l : List Entry). record { no = 0; line = 0; field = 0; talker = Of (head .talker); table = record { count = length (g .es); entries = l } }) (g .places)
+      ap (λ (n : ℕ). record {
+        no = 0;
+        line = 0;
+        field = 0;
+        talker = Of
+            (head .talker);
+        table = record { count = n; entries = entries };
+      }) all
+      ∙ ap (λ (l : List Entry). record {
+        no = 0;
+        line = 0;
+        field = 0;
+        talker = Of
+            (head .talker);
+        table = record { count = length (g .es); entries = l };
+      }) (g .places)
 
-  end-is : (b : Bool) → SizeIf b head k (length (g .es)) → endIf (b && eqb (head .lines + 1) k) head k entries ≡ skyOf (ended (seenIf b head (g .es)) k)
+  end-is : (b : Bool) → SizeIf b head k (length (g .es))
+      → endIf (b && eqb (head .lines + 1) k) head k entries ≡ skyOf (ended (seenIf b head (g .es)) k)
   unfolding ended
   end-is false z = refl
   end-is true z = end-by z (eqb (head .lines + 1) k) refl

@@ -98,7 +98,8 @@ module _ (k n : ℕ) (t : Talker) (v : Gsv) (sound : Sound v) where
       (eqb-true (v .lines) (linesFor (v .satellites)) (and-left _ _ f))
       (omega (arith, z .0, z .1))
 
-  later-sized : (h : Head) → (sameTalker (h .talker) t && (eqb (h .lines) (v .lines) && (eqb (h .satellites) (v .satellites) && inPlace k v))) ≡ true → Begun h k n → Sized k n t v
+  later-sized : (h : Head) → (sameTalker (h .talker) t &&
+      (eqb (h .lines) (v .lines) && (eqb (h .satellites) (v .satellites) && inPlace k v))) ≡ true → Begun h k n → Sized k n t v
   later-sized h f z =
       let f1 = and-right (sameTalker (h .talker) t) _ f in
       let f2 = and-right (eqb (h .lines) (v .lines)) _ f1 in

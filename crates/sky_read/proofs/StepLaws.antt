@@ -65,12 +65,14 @@ follows-any h es k t v = go (h .begun)
     go true = refl
 
 -- Line 1, and a later line.
-pub follows-first : (h : Head) (k : ℕ) (t : Talker) (v : Gsv) → h .begun ≡ false → (eqb (v .lines) (linesFor (v .satellites)) && inPlace k v) ≡ follows (seenOf h []) k t v
+pub follows-first : (h : Head) (k : ℕ) (t : Talker) (v : Gsv) → h .begun ≡ false
+    → (eqb (v .lines) (linesFor (v .satellites)) && inPlace k v) ≡ follows (seenOf h []) k t v
 unfolding follows
 follows-first h k t v e = rw e
 
 pub follows-later : (h : Head) (k : ℕ) (t : Talker) (v : Gsv) → h .begun ≡ true
-    → (eqb (talkerNo (h .talker)) (talkerNo t) && (eqb (h .lines) (v .lines) && (eqb (h .satellites) (v .satellites) && inPlace k v))) ≡ follows (seenOf h []) k t v
+    → (eqb (talkerNo (h .talker)) (talkerNo t) &&
+    (eqb (h .lines) (v .lines) && (eqb (h .satellites) (v .satellites) && inPlace k v))) ≡ follows (seenOf h []) k t v
 unfolding follows sameTalker
 follows-later h k t v e = rw e
 
@@ -103,7 +105,8 @@ module _ (q : Option Seen) (k : ℕ) (l : List ℕ) where
   other-six (S.Ea r) v a b = refl
 
   -- Any other kind.
-  pub rule-other : (r : Reading) → r ≡ readLine l → OneOf notRefused (tagOf the-type (r .sentence)) → OneOf notGsv (tagOf the-type (r .sentence)) → rule q k l ≡ stop 6 0
+  pub rule-other : (r : Reading) → r ≡ readLine l → OneOf notRefused (tagOf the-type (r .sentence))
+      → OneOf notGsv (tagOf the-type (r .sentence)) → rule q k l ≡ stop 6 0
   unfolding rule
   rule-other r e a b = ap (λ (r : Reading). ruled q k (r .sentence) (r .gsv)) (sym e) ∙ other-six (r .sentence) (r .gsv) a b
 
@@ -132,22 +135,27 @@ module _ (h : Head) (k : ℕ) (l before left : List ℕ) (kept : length left ≡
       unfolding gsvRule
       decided es b =
           gsv-rule es
-          ∙ ap (λ (x : Bool). pick x (pick (repeats (entriesOf (seenOf h es)) (usedOf v)) (stop 7 0) (next (some (seen (seenOf h es) t v)))) (stop 6 0)) (sym (i ∙ follows-any h es k t v))
-          ∙ ap (λ (l : List Entry). pick f (pick (repeats l (usedOf v)) (stop 7 0) (next (some (seen (seenOf h es) t v)))) (stop 6 0)) (b .0)
+          ∙ ap (λ (x : Bool). pick x (pick (repeats (entriesOf (seenOf h es)) (usedOf v)) (stop 7 0)
+          (next (some (seen (seenOf h es) t v)))) (stop 6 0)) (sym (i ∙ follows-any h es k t v))
+          ∙ ap (λ (l : List Entry). pick f (pick (repeats l (usedOf v)) (stop 7 0) (next (some (seen (seenOf h es) t v)))) (stop 6 0))
+          (b .0)
           ∙ ap (λ (x : Bool). pick f (pick x (stop 7 0) (next (some (seen (seenOf h es) t v)))) (stop 6 0)) (sym (c .finds es (b .1)))
 
-      fault-is : (f answer : Bool) (s : Step (Option Seen)) (n : ℕ) → n ≡ faultOf f answer → (n ≡ 0 → ⊥) → pick f (pick answer (stop 7 0) s) (stop 6 0) ≡ stop n 0
+      fault-is : (f answer : Bool) (s : Step (Option Seen)) (n : ℕ) → n ≡ faultOf f answer → (n ≡ 0 → ⊥)
+          → pick f (pick answer (stop 7 0) s) (stop 6 0) ≡ stop n 0
       fault-is false answer s n e z = ap (λ (x : ℕ). stop x 0) (sym e)
       fault-is true true s n e z = ap (λ (x : ℕ). stop x 0) (sym e)
       fault-is true false s n e z = absurd (z e)
 
-      fault-none : (f answer : Bool) (s : Step (Option Seen)) → faultOf f answer ≡ 0 → (f ≡ true) × (pick f (pick answer (stop 7 0) s) (stop 6 0) ≡ s)
+      fault-none : (f answer : Bool) (s : Step (Option Seen)) → faultOf f answer ≡ 0 → (f ≡ true)
+          × (pick f (pick answer (stop 7 0) s) (stop 6 0) ≡ s)
       fault-none false answer s e = let z : ⊥ = omega arith in absurd z
       fault-none true true s e = let z : ⊥ = omega arith in absurd z
       fault-none true false s e = (refl, refl)
 
       -- It ends the group.
-      pub rule-fault : (n : ℕ) → n ≡ faultOf f answer → (n ≡ 0 → ⊥) → (es : List Entry) → Before h es before → rule (seenOf h es) k l ≡ stop n 0
+      pub rule-fault : (n : ℕ) → n ≡ faultOf f answer → (n ≡ 0 → ⊥) → (es : List Entry) → Before h es before
+          → rule (seenOf h es) k l ≡ stop n 0
       rule-fault n e z es b = decided es b ∙ fault-is f answer (next (some (seen (seenOf h es) t v))) n e z
 
       -- It is taken.
@@ -158,7 +166,8 @@ module _ (h : Head) (k : ℕ) (l before left : List ℕ) (kept : length left ≡
         taken = λ es b u q. record {
           read = s ∙ ap S.Gsv (taken-same q);
           record-of = e;
-          fits = ap (λ (u : Talker). follows (seenOf h es) k u v) (sym (taken-same q)) ∙ sym (i ∙ follows-any h es k t v) ∙ fault-none f answer (stop 0 0) a .0;
+          fits = ap (λ (u : Talker). follows (seenOf h es) k u v) (sym (taken-same q)) ∙ sym (i ∙ follows-any h es k t v)
+              ∙ fault-none f answer (stop 0 0) a .0;
           marks = c .marks es (b .1);
         };
       }

@@ -79,7 +79,14 @@ pub record Steps (h : Head) (k : ℕ) (l before : List ℕ) (r : Stepped) (left 
 
 -- Where the lines end, before line k.
 abbrev pub endIf : Bool → Head → ℕ → List Entry → Sky
-endIf true h k entries = record { no = 0; line = 0; field = 0; talker = Of (h .talker); table = record { count = h .satellites; entries = entries } }
+endIf true h k entries = record {
+  no = 0;
+  line = 0;
+  field = 0;
+  talker = Of
+      (h .talker);
+  table = record { count = h .satellites; entries = entries };
+}
 endIf false h k entries = refusedSky 6 k 0
 
 abbrev pub skyEnd : Head → ℕ → List Entry → Sky

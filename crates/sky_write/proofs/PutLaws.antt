@@ -32,7 +32,8 @@ pub record Wrote (line out : List ℕ) (answer : Written) (left : List ℕ) : Ty
   pub answers : answer ≡ wrote (length line)
   pub leaves : left ≡ line ++ drop (length line) out
 
-line-wrote : (f : Written) (s o : List ℕ) {a : Written} {l : List ℕ} → Writes f s o a l → f .no ≡ 0 → length s ≤ 76 → length (asLine s) ≤ length o → Wrote (asLine s) o a l
+line-wrote : (f : Written) (s o : List ℕ) {a : Written} {l : List ℕ} → Writes f s o a l → f .no ≡ 0 → length s ≤ 76
+    → length (asLine s) ≤ length o → Wrote (asLine s) o a l
 unfolding writtenOf leftOf
 line-wrote f s o w z h i =
     let k = le-ltb 82 (length (asLine s)) (omega (arith, h, line-length s)) in
@@ -44,9 +45,11 @@ module _ (out : List ℕ) (at : ℕ) (line : List ℕ) (h : at + length line ≤
   rest-is : midOf at (length out - at) out ≡ drop at out
   rest-is = take-all (length out - at) (drop at out) (omega (arith, length-drop at out))
 
-  put-is : {left : List ℕ} → left ≡ line ++ drop (length line) (drop at out) → putMid at (length out - at) out left ≡ (take at out ++ line) ++ drop (at + length line) out
+  put-is : {left : List ℕ} → left ≡ line ++ drop (length line) (drop at out)
+      → putMid at (length out - at) out left ≡ (take at out ++ line) ++ drop (at + length line) out
   put-is {left} e =
-      ap (λ (l : List ℕ). take at out ++ (left ++ l)) (post-is at (length out) out (omega (arith, h)) ∙ drop-of-length-le out {i = length out} (omega arith))
+      ap (λ (l : List ℕ). take at out ++ (left ++ l))
+      (post-is at (length out) out (omega (arith, h)) ∙ drop-of-length-le out {i = length out} (omega arith))
       ∙ ap (λ (l : List ℕ). take at out ++ l) (append-nil left ∙ e ∙ ap (λ (l : List ℕ). line ++ l) (drop-drop (length line) at out))
       ∙ sym (append-assoc (take at out) line (drop (at + length line) out))
 
@@ -54,7 +57,13 @@ module _ (out : List ℕ) (at : ℕ) (line : List ℕ) (h : at + length line ≤
   front-long = length-append (take at out) line ∙ ap (λ (n : ℕ). n + length line) (length-take-le at out (omega (arith, h)))
 
   all-long : length ((take at out ++ line) ++ drop (at + length line) out) ≡ length out
-  all-long = omega (arith, h, length-append (take at out ++ line) (drop (at + length line) out), front-long, length-drop (at + length line) out)
+  all-long = omega (
+    arith,
+    h,
+    length-append (take at out ++ line) (drop (at + length line) out),
+    front-long,
+    length-drop (at + length line) out,
+  )
 
 -- The lines before line k stand in the output, `at` bytes of them.
 pub record Put (t : Talker) (r : Table) (first : List ℕ) (lines k at : ℕ) (out : List ℕ) : Type 0 where
@@ -70,17 +79,27 @@ module _ (t : Talker) (r : Table) (first : List ℕ) (lines : ℕ) (q : lines �
   unfolding groupText
   put-none =
       let e : linesFor (r .count) ≡ lines + 1 - 1 = omega (arith, q) in
-      record { some = omega arith; most = omega arith; place = omega arith; long = refl; text = ap (λ (m : ℕ). joined (linesFrom t r 1 m)) e; rest = refl }
+      record {
+        some = omega arith;
+        most = omega arith;
+        place = omega arith;
+        long = refl;
+        text = ap
+            (λ (m : ℕ). joined (linesFrom t r 1 m)) e;
+        rest = refl;
+      }
 
   module _ (full : length (r .entries) ≡ 36) (ready : Ready t r first) {k at : ℕ} {out : List ℕ} (p : Put t r first lines k at out) where
     pub put-all : lines < k → PutsGroup t r first at out
     put-all h =
         let e : lines + 1 - k ≡ 0 = omega (arith, h) in
-        let g : groupText t r ≡ take at out = p .text ∙ ap (λ (m : ℕ). take at out ++ joined (linesFrom t r k m)) e ∙ append-nil (take at out) in
+        let g : groupText t r ≡ take at out = p .text ∙ ap (λ (m : ℕ). take at out ++ joined (linesFrom t r k m)) e
+        ∙ append-nil (take at out) in
         let n : length (groupText t r) ≡ at = ap (λ (l : List ℕ). length l) g ∙ length-take-le at out (p .place) in
         record {
           answers = sym n;
-          leaves = sym (take-append-drop at out) ∙ ap (λ (l : List ℕ). take at out ++ l) (p .rest) ∙ rw (g, length-take-le at out (p .place));
+          leaves = sym (take-append-drop at out) ∙ ap (λ (l : List ℕ). take at out ++ l) (p .rest)
+              ∙ rw (g, length-take-le at out (p .place));
         }
 
     module _ (h : k ≤ lines) where
@@ -107,14 +126,16 @@ module _ (t : Talker) (r : Table) (first : List ℕ) (lines : ℕ) (q : lines �
             p .long,
           )
 
-      wrote-it : {v : Gsv} {a : Written} {left : List ℕ} → v ≡ lineAt r k → Writes (gsvFault v) (gsvBody t v) (midOf at (length out - at) out) a left → Wrote line (drop at out) a left
+      wrote-it : {v : Gsv} {a : Written} {left : List ℕ} → v ≡ lineAt r k
+          → Writes (gsvFault v) (gsvBody t v) (midOf at (length out - at) out) a left → Wrote line (drop at out) a left
       wrote-it {v} {a} {left} e w =
           line-wrote (gsvFault (lineAt r k)) (gsvBody t (lineAt r k)) (drop at out) (rw (e, rest-is out at line room) at w)
           (line-good r full (ready .good) k (p .some) (omega (arith, h, q)))
           (fits t (lineAt r k))
           (omega (arith, room, length-drop at out))
 
-      pub put-next : {v : Gsv} {a : Written} {left : List ℕ} → v ≡ lineAt r k → Writes (gsvFault v) (gsvBody t v) (midOf at (length out - at) out) a left
+      pub put-next : {v : Gsv} {a : Written} {left : List ℕ} → v ≡ lineAt r k
+          → Writes (gsvFault v) (gsvBody t v) (midOf at (length out - at) out) a left
           → Put t r first lines (k + 1) (at + a .length) (putMid at (length out - at) out left)
       put-next {v} {a} {left} e w =
           let x = wrote-it e w in
@@ -127,12 +148,15 @@ module _ (t : Talker) (r : Table) (first : List ℕ) (lines : ℕ) (q : lines �
             most = omega (arith, h);
             place = omega (arith, room, all-long out at line room);
             long = all-long out at line room ∙ p .long;
-            text = text-is ∙ sym (ap (λ (l : List ℕ). l ++ later) (take-at (take at out ++ line) (drop (at + length line) out) (at + length line) f));
+            text = text-is ∙ sym (ap (λ (l : List ℕ). l ++ later)
+                (take-at (take at out ++ line) (drop (at + length line) out) (at + length line) f));
             rest = drop-at (take at out ++ line) (drop (at + length line) out) (at + length line) f
-                ∙ sym (drop-drop (length line) at out) ∙ ap (λ (l : List ℕ). drop (length line) l) (p .rest) ∙ drop-drop (length line) at first;
+                ∙ sym (drop-drop (length line) at out) ∙ ap (λ (l : List ℕ). drop (length line) l) (p .rest)
+                ∙ drop-drop (length line) at first;
           }
 
-      pub next-place : {v : Gsv} {a : Written} {left : List ℕ} → v ≡ lineAt r k → Writes (gsvFault v) (gsvBody t v) (midOf at (length out - at) out) a left → at + a .length ≤ length first
+      pub next-place : {v : Gsv} {a : Written} {left : List ℕ} → v ≡ lineAt r k
+          → Writes (gsvFault v) (gsvBody t v) (midOf at (length out - at) out) a left → at + a .length ≤ length first
       next-place {v} {a} {left} e w = let n = put-next e w in omega (arith, n .place, n .long)
 
       pub nine : k ≤ 9
@@ -169,4 +193,8 @@ module _ (t : Talker) (r : Table) (out : List ℕ) {f : Written} (e : f ≡ tabl
         unfolding writtenGroup leftGroup
         group-out w =
             let k = le-ltb (length out) (length (groupText t r)) (omega (arith, h, size)) in
-            record { answers = ap wrote (w .answers) ∙ rw (← e, eq-eqb (f .no) 0 z, k); leaves = w .leaves ∙ rw (← e, eq-eqb (f .no) 0 z, k) }
+            record {
+              answers = ap wrote (w .answers) ∙ rw (← e, eq-eqb (f .no) 0 z, k);
+              leaves = w .leaves
+                  ∙ rw (← e, eq-eqb (f .no) 0 z, k);
+            }

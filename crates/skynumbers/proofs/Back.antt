@@ -33,13 +33,24 @@ module _ (n : List ℕ) (i : ℕ) (e : Entry) (rest : List ℕ) (h : drop i n �
 
   entry-back : entryAt n i ≡ e
   entry-back =
-      rw
-      (at 0 i (omega arith), at 1 (i + 1) (omega arith), at 2 (i + 1 + 1) (omega arith), at 3 (i + 3) (omega arith), at 4 (i + 3 + 1) (omega arith), at 5 (i + 5) (omega arith), at 6 (i + 5 + 1) (omega arith), mark-back (e .elevation .there), mark-back (e .azimuth .there), mark-back (e .signal .there))
+      rw (
+        at 0 i (omega arith),
+        at 1 (i + 1) (omega arith),
+        at 2 (i + 1 + 1) (omega arith),
+        at 3 (i + 3) (omega arith),
+        at 4 (i + 3 + 1) (omega arith),
+        at 5 (i + 5) (omega arith),
+        at 6 (i + 5 + 1) (omega arith),
+        mark-back (e .elevation .there),
+        mark-back (e .azimuth .there),
+        mark-back (e .signal .there),
+      )
 
   rest-back : drop (i + 7) n ≡ rest
   rest-back = sym (drop-drop 7 i n) ∙ ap (drop 7) h
 
-entries-back : (n : List ℕ) (i : ℕ) (es : List Entry) (rest : List ℕ) → drop i n ≡ placeNumbers es ++ rest → entriesFrom n i (length es) ≡ es
+entries-back : (n : List ℕ) (i : ℕ) (es : List Entry) (rest : List ℕ) → drop i n ≡ placeNumbers es ++ rest
+    → entriesFrom n i (length es) ≡ es
 unfolding placeNumbers entriesFrom
 entries-back n i [] rest h = refl
 entries-back n i (e ∷ es) rest h =
@@ -50,8 +61,10 @@ module _ (t : Talker) (r : Table) (full : length (r .entries) ≡ 36) where
   pub back : (rest : List ℕ) → (talkerOf (getD (skyNumbers t r ++ rest) 0 0) ≡ t) × (tableAt (skyNumbers t r ++ rest) ≡ r)
   unfolding skyNumbers tableAt
   back rest =
-      let es : entriesFrom (skyNumbers t r ++ rest) 2 36 ≡ r .entries = ap (entriesFrom (skyNumbers t r ++ rest) 2) (sym full) ∙ entries-back (skyNumbers t r ++ rest) 2 (r .entries) rest refl in
+      let es : entriesFrom (skyNumbers t r ++ rest) 2 36 ≡ r .entries = ap (entriesFrom (skyNumbers t r ++ rest) 2) (sym full)
+      ∙ entries-back (skyNumbers t r ++ rest) 2 (r .entries) rest refl in
       (talker-back t, rw es)
 
-  pub laid-back : (out : List ℕ) → 254 ≤ length out → (talkerOf (getD (laid (skyNumbers t r) out) 0 0) ≡ t) × (tableAt (laid (skyNumbers t r) out) ≡ r)
+  pub laid-back : (out : List ℕ) → 254 ≤ length out → (talkerOf (getD (laid (skyNumbers t r) out) 0 0) ≡ t)
+      × (tableAt (laid (skyNumbers t r) out) ≡ r)
   laid-back out h = rw (laid-is (skyNumbers t r) out (omega (arith, sky-length t r full, h))) (back (drop (length (skyNumbers t r)) out))

@@ -35,7 +35,9 @@ module _ (front rest v : List ℕ) (at : ℕ) (h : length front ≡ at) (room : 
   put-behind : {left : List ℕ} → left ≡ laid v (midOf at (length (front ++ rest) - at) (front ++ rest))
       → putMid at (length (front ++ rest) - at) (front ++ rest) left ≡ (front ++ v) ++ drop (length v) rest
   put-behind {left} e =
-      ap (λ (l : List ℕ). take at (front ++ rest) ++ (left ++ l)) (post-is at (length (front ++ rest)) (front ++ rest) (omega (arith, long)) ∙ drop-of-length-le (front ++ rest) {i = length (front ++ rest)} (omega arith))
+      ap (λ (l : List ℕ). take at (front ++ rest) ++ (left ++ l))
+      (post-is at (length (front ++ rest)) (front ++ rest) (omega (arith, long))
+      ∙ drop-of-length-le (front ++ rest) {i = length (front ++ rest)} (omega arith))
       ∙ ap (λ (l : List ℕ). take at (front ++ rest) ++ l) (append-nil left ∙ e ∙ ap (laid v) rest-is ∙ laid-is v rest room)
       ∙ ap (λ (l : List ℕ). l ++ (v ++ drop (length v) rest)) (take-at front rest at h)
       ∙ sym (append-assoc front v (drop (length v) rest))
@@ -48,7 +50,8 @@ numbers-length (e ∷ es) = omega (arith, numbers-length es)
 numbers-snoc : (es : List Entry) (e : Entry) → placeNumbers (es ++ (e ∷ [])) ≡ placeNumbers es ++ entryNumbers e
 unfolding placeNumbers
 numbers-snoc [] e = refl
-numbers-snoc (x ∷ es) e = ap (λ (l : List ℕ). entryNumbers x ++ l) (numbers-snoc es e) ∙ sym (append-assoc (entryNumbers x) (placeNumbers es) (entryNumbers e))
+numbers-snoc (x ∷ es) e = ap (λ (l : List ℕ). entryNumbers x ++ l) (numbers-snoc es e)
+    ∙ sym (append-assoc (entryNumbers x) (placeNumbers es) (entryNumbers e))
 
 -- The places before place i are stored.
 pub record Stored (es : List Entry) (first : List ℕ) (i : ℕ) (out : List ℕ) : Type 0 where
@@ -59,7 +62,12 @@ pub record Stored (es : List Entry) (first : List ℕ) (i : ℕ) (out : List ℕ
 module _ (es : List Entry) (full : length es ≡ 36) (first : List ℕ) where
   pub stored-none : 254 ≤ length first → Stored es first 0 first
   unfolding placeNumbers
-  stored-none h = record { place = omega arith; room = h; text = sym (ap (λ (l : List ℕ). l ++ drop 2 first) (append-nil (take 2 first)) ∙ take-append-drop 2 first) }
+  stored-none h = record {
+    place = omega arith;
+    room = h;
+    text = sym
+        (ap (λ (l : List ℕ). l ++ drop 2 first) (append-nil (take 2 first)) ∙ take-append-drop 2 first);
+  }
 
   module _ {i : ℕ} {out : List ℕ} (s : Stored es first i out) where
     abbrev front : List ℕ
@@ -78,22 +86,34 @@ module _ (es : List Entry) (full : length es ≡ 36) (first : List ℕ) where
         omega (arith, length-append (take 2 first) (placeNumbers (take i es)), a, b, numbers-length (take i es))
 
     pub stored-long : length out ≡ length first
-    stored-long = ap length (s .text) ∙ omega (arith, length-append (take 2 first ++ placeNumbers (take i es)) (drop (2 + 7 * i) first), front-long, length-drop (2 + 7 * i) first, s .room, s .place)
+    stored-long = ap length (s .text)
+        ∙ omega (
+          arith,
+          length-append (take 2 first ++ placeNumbers (take i es)) (drop (2 + 7 * i) first),
+          front-long,
+          length-drop (2 + 7 * i) first,
+          s .room,
+          s .place,
+        )
 
-    pub stored-next : i < 36 → {left : List ℕ} → left ≡ laid (entryNumbers (getD es i blankEntry)) (midOf (2 + 7 * i) (length out - (2 + 7 * i)) out)
+    pub stored-next : i < 36 → {left : List ℕ}
+        → left ≡ laid (entryNumbers (getD es i blankEntry)) (midOf (2 + 7 * i) (length out - (2 + 7 * i)) out)
         → Stored es first (i + 1) (putMid (2 + 7 * i) (length out - (2 + 7 * i)) out left)
     stored-next h {left} e =
         record {
           place = omega (arith, h);
           room = s .room;
-          text = rw (s .text) (put-behind front rest v (2 + 7 * i) front-long (omega (arith, length-drop (2 + 7 * i) first, s .room, h)) (rw (s .text) at e)) ∙ ap (λ (l : List ℕ). l ++ drop 7 rest) more ∙ ap (λ (l : List ℕ). (take 2 first ++ placeNumbers (take (i + 1) es)) ++ l) less;
+          text = rw (s .text) (put-behind front rest v (2 + 7 * i) front-long (omega (arith, length-drop (2 + 7 * i) first, s .room, h))
+              (rw (s .text) at e)) ∙ ap (λ (l : List ℕ). l ++ drop 7 rest) more
+              ∙ ap (λ (l : List ℕ). (take 2 first ++ placeNumbers (take (i + 1) es)) ++ l) less;
         }
       where
         more : front ++ v ≡ take 2 first ++ placeNumbers (take (i + 1) es)
         more =
             append-assoc (take 2 first) (placeNumbers (take i es)) v
             ∙ ap (λ (l : List ℕ). take 2 first ++ l) (sym (numbers-snoc (take i es) (getD es i blankEntry)))
-            ∙ ap (λ (l : List Entry). take 2 first ++ placeNumbers l) (sym (rw (add-one i) (take-suc es i blankEntry (omega (arith, h, full)))))
+            ∙ ap (λ (l : List Entry). take 2 first ++ placeNumbers l)
+            (sym (rw (add-one i) (take-suc es i blankEntry (omega (arith, h, full)))))
 
         less : drop 7 rest ≡ drop (2 + 7 * (i + 1)) first
         less = let n : 2 + 7 * i + 7 ≡ 2 + 7 * (i + 1) = omega arith in drop-drop 7 (2 + 7 * i) first ∙ ap (λ (k : ℕ). drop k first) n
@@ -137,10 +157,12 @@ module _ (t : Talker) (r : Table) (full : length (r .entries) ≡ 36) (out : Lis
   unfolding skyNumbers
   start-is q = rw q
 
-  pub laid-whole : {left : List ℕ} → 254 ≤ length out → {n : ℕ} → n ≡ talkerNumber t → left ≡ (take 2 (headed n) ++ placeNumbers (r .entries)) ++ drop 254 (headed n)
+  pub laid-whole : {left : List ℕ} → 254 ≤ length out → {n : ℕ} → n ≡ talkerNumber t
+      → left ≡ (take 2 (headed n) ++ placeNumbers (r .entries)) ++ drop 254 (headed n)
       → (true ≡ leb 254 (length out)) × (left ≡ laid (skyNumbers t r) out)
   laid-whole h {n} q e =
-      let front : (take 2 (headed n) ++ placeNumbers (r .entries)) ++ drop 254 (headed n) ≡ skyNumbers t r ++ drop 254 out = rw (head-is n h, tail-is n, ← start-is q) in
+      let front : (take 2 (headed n) ++ placeNumbers (r .entries)) ++ drop 254 (headed n) ≡ skyNumbers t r ++ drop 254 out =
+      rw (head-is n h, tail-is n, ← start-is q) in
       let long = sky-length t r full in
       let whole = laid-is (skyNumbers t r) out (omega (arith, long, h)) ∙ ap (λ (k : ℕ). skyNumbers t r ++ drop k out) long in
       (sym (le-leb 254 (length out) h), e ∙ front ∙ sym whole)

@@ -32,7 +32,8 @@ module _ (n : List ℕ) where
         record {
           place = omega (arith, h);
           full = length-set entries i e ∙ t .full;
-          text = rw (add-one i) (take-suc-set entries i e (omega (arith, h, t .full)) ∙ ap (λ (l : List Entry). l ++ (e ∷ [])) (t .text) ∙ ap (λ (x : Entry). entriesFrom n 2 i ++ (x ∷ [])) q ∙ sym (from-snoc n 2 i));
+          text = rw (add-one i) (take-suc-set entries i e (omega (arith, h, t .full)) ∙ ap (λ (l : List Entry). l ++ (e ∷ [])) (t .text)
+              ∙ ap (λ (x : Entry). entriesFrom n 2 i ++ (x ∷ [])) q ∙ sym (from-snoc n 2 i));
         }
 
     pub taken-all : 36 ≤ i → entries ≡ entriesFrom n 2 36

@@ -21,7 +21,8 @@ natural (pos n) e = refl
 natural (negsuc n) e = absurd (true≢false e)
 
 module _ (z : ℤ) (f : SFits w32 z) where
-  pub below : (n : ℕ) → n ≡ natAbs (toZ w32 (ofZ w32 z)) → ltZ (toZ w32 (ofZ w32 z)) (pos 0) ≡ true → (4294967296 - n ≡ ofZ w32 z) × (1 ≤ n) × (n ≤ 2147483648)
+  pub below : (n : ℕ) → n ≡ natAbs (toZ w32 (ofZ w32 z)) → ltZ (toZ w32 (ofZ w32 z)) (pos 0) ≡ true → (4294967296 - n ≡ ofZ w32 z)
+      × (1 ≤ n) × (n ≤ 2147483648)
   below n s e = rw (s, toZ-ofZ f) (negative z f (rw (toZ-ofZ f) at e))
 
   pub above : ltZ (toZ w32 (ofZ w32 z)) (pos 0) ≡ false → natAbs (toZ w32 (ofZ w32 z)) ≡ ofZ w32 z

@@ -9,7 +9,8 @@ use form_number::Signed;
 use form_position::Place;
 ghost use Rattle.put.specs.Wrote.{held, Puts};
 ghost use Rattle.text.specs.Numbers.{intText, valueText};
-ghost use Rattle.text.specs.Values.{dateNumbers, kmhNumbers, knotsNumbers, markText, maybeNumbers, placeNumbers, signedNumbers, thousandthNumbers, zoneNumbers};
+ghost use Rattle.text.specs.Values.{dateNumbers, kmhNumbers, knotsNumbers, markText, maybeNumbers, placeNumbers, signedNumbers};
+ghost use Rattle.text.specs.Values.{thousandthNumbers, zoneNumbers};
 
 pub fn put_value(out: &mut [u8], at: usize, v: u32) -> usize
     ensures { λ r. ⌜ Puts (held at (now (out .entry))) (valueText v) (held r (now (out .exit))) ⌝ }

@@ -67,7 +67,8 @@ satellite r k rest = maybe (getD (r .satellites) k noMaybe .there) (getD (r .sat
 
 -- Six of them, from place k on; and the last six, with PDOP, HDOP and VDOP.
 abbrev pub sixFrom : Gsa → ℕ → List ℕ → List ℕ
-sixFrom r k rest = satellite r k (satellite r (k + 1) (satellite r (k + 2) (satellite r (k + 3) (satellite r (k + 4) (satellite r (k + 5) rest)))))
+sixFrom r k rest = satellite r k
+    (satellite r (k + 1) (satellite r (k + 2) (satellite r (k + 3) (satellite r (k + 4) (satellite r (k + 5) rest)))))
 
 abbrev pub lastSix : Gsa → List ℕ
 lastSix r =

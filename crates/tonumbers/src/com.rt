@@ -10,7 +10,8 @@ ghost use mathlib.Core.Path.{_≡_};
 ghost use lib.Dec.{leb};
 ghost use lib.ListN.{length};
 ghost use Rattle.slots.specs.Slots.{laid};
-ghost use Rattle.tonumbers.specs.Layout.{pirprNumbers, pirtrNumbers, pirsrNumbers, pirpaNumbers, pirtaNumbers, pirsaNumbers, pireaNumbers};
+ghost use Rattle.tonumbers.specs.Layout.{pirprNumbers, pirtrNumbers, pirsrNumbers, pirpaNumbers, pirtaNumbers, pirsaNumbers};
+ghost use Rattle.tonumbers.specs.Layout.{pireaNumbers};
 
 pub fn pirpr(out: &mut [u32], r: PortAsked) -> bool
     ensures { λ b. ⌜ b ≡ leb (length (pirprNumbers r)) (length (now (out .entry))) ⌝ }

@@ -1,4 +1,5 @@
--- The numbers that a host was lent after it read a line, whole as they are, say the record of that line: the tests of the answer leave one way
+-- The numbers that a host was lent after it read a line, whole as they are, say the record of that line: the tests of the answer leave one
+-- way
 -- to a kind, and on it the numbers were laid.
 use Prim.Native.Nat.{ℕ}
 use mathlib.Core.Path.{_∙_, _≡_, ap, refl, sym}
@@ -25,19 +26,24 @@ no-room : (numbers values : List ℕ) → leb (length values) (length numbers) �
 unfolding laid
 no-room numbers values e = ap (λ b. pick b (values ++ drop (length values) numbers) numbers) e
 
-laid-back : (r : Reading) → Crosses r → (numbers : List ℕ) → (toldFor r numbers .kind ≡ 0 → ⊥) → recordAt (toldFor r numbers .kind) (laidFor r numbers) ≡ r
+laid-back : (r : Reading) → Crosses r → (numbers : List ℕ) → (toldFor r numbers .kind ≡ 0 → ⊥)
+    → recordAt (toldFor r numbers .kind) (laidFor r numbers) ≡ r
 unfolding toldOf laid
 laid-back r crosses numbers = go (eqb (refusalOf (r .sentence) .no) 0) (leb (length (numbersOf r)) (length numbers))
   where
     go : (a b : Bool)
-        → (pick a (pick b (told 0 (kindOf (r .sentence)) 0) (told 8 0 0)) (told (refusalOf (r .sentence) .no) 0 (refusalOf (r .sentence) .field)) .kind ≡ 0 → ⊥)
-        → recordAt (pick a (pick b (told 0 (kindOf (r .sentence)) 0) (told 8 0 0)) (told (refusalOf (r .sentence) .no) 0 (refusalOf (r .sentence) .field)) .kind) (pick b (numbersOf r ++ drop (length (numbersOf r)) numbers) numbers) ≡ r
+        → (pick a (pick b (told 0 (kindOf (r .sentence)) 0) (told 8 0 0))
+        (told (refusalOf (r .sentence) .no) 0 (refusalOf (r .sentence) .field)) .kind ≡ 0 → ⊥)
+        → recordAt (pick a (pick b (told 0 (kindOf (r .sentence)) 0) (told 8 0 0))
+        (told (refusalOf (r .sentence) .no) 0 (refusalOf (r .sentence) .field)) .kind)
+        (pick b (numbersOf r ++ drop (length (numbersOf r)) numbers) numbers) ≡ r
     go true true h = crosses h (drop (length (numbersOf r)) numbers)
     go true false h = absurd (h refl)
     go false b h = absurd (h refl)
 
 -- Where a host is told a kind, the kind and its numbers say what the line was read to.
-pub host-back : (l numbers : List ℕ) → (toldFor (readLine l) numbers .kind ≡ 0 → ⊥) → recordAt (toldFor (readLine l) numbers .kind) (laidFor (readLine l) numbers) ≡ readLine l
+pub host-back : (l numbers : List ℕ) → (toldFor (readLine l) numbers .kind ≡ 0 → ⊥)
+    → recordAt (toldFor (readLine l) numbers .kind) (laidFor (readLine l) numbers) ≡ readLine l
 host-back l numbers h = laid-back (readLine l) (read-crosses l) numbers h
 
 -- A refused line has no numbers.
@@ -65,7 +71,8 @@ unfolding toldOf
 refusal-leaves r numbers = go (eqb (refusalOf (r .sentence) .no) 0) (leb (length (numbersOf r)) (length numbers)) refl refl
   where
     go : (a b : Bool) → eqb (refusalOf (r .sentence) .no) 0 ≡ a → leb (length (numbersOf r)) (length numbers) ≡ b
-        → (pick a (pick b (told 0 (kindOf (r .sentence)) 0) (told 8 0 0)) (told (refusalOf (r .sentence) .no) 0 (refusalOf (r .sentence) .field)) .no ≡ 0 → ⊥)
+        → (pick a (pick b (told 0 (kindOf (r .sentence)) 0) (told 8 0 0))
+        (told (refusalOf (r .sentence) .no) 0 (refusalOf (r .sentence) .field)) .no ≡ 0 → ⊥)
         → laidFor r numbers ≡ numbers
     go true true p q h = absurd (h refl)
     go true false p q h = no-room numbers (numbersOf r) q

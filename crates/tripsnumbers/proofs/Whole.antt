@@ -1,4 +1,5 @@
--- A record crosses to a host and back unchanged, whatever its kind: the kind's number and the count of its numbers lead back to its kind, the
+-- A record crosses to a host and back unchanged, whatever its kind: the kind's number and the count of its numbers lead back to its kind,
+-- the
 -- talker's number to its talker, and the numbers to the record.
 use Prim.Native.Nat.{_≤_, ℕ}
 use mathlib.Core.Path.{_∙_, _≡_, ap, refl, sym}
@@ -80,14 +81,18 @@ talker-known kind T.Gq = sym (ap (λ b. pick b Unknown (knownOf kind T.Gq)) (and
 talker-known kind T.Gn = sym (ap (λ b. pick b Unknown (knownOf kind T.Gn)) (and-no (ltb kind 8)))
 
 -- Numbers of a talker's sentence, and of the maker's, at least as many as the kind has.
-from-talker : (kind : ℕ) (t : Talker) (n : List ℕ) → countOf kind ≤ length n → getD n 0 0 ≡ talkerNumber t → addressed (knownOf kind t) n ≡ recordAt kind n
-from-talker kind t n full first = enough kind n (countOf kind) refl (knownOf kind t) (talker-known kind t ∙ ap (addressAt kind) (sym first)) full
+from-talker : (kind : ℕ) (t : Talker) (n : List ℕ) → countOf kind ≤ length n → getD n 0 0 ≡ talkerNumber t
+    → addressed (knownOf kind t) n ≡ recordAt kind n
+from-talker kind t n full first =
+    enough kind n (countOf kind) refl (knownOf kind t) (talker-known kind t ∙ ap (addressAt kind) (sym first)) full
 
-from-maker : (kind : ℕ) (k : Pir) (n : List ℕ) → countOf kind ≤ length n → Maker k ≡ addressAt kind (getD n 0 0) → addressed (Maker k) n ≡ recordAt kind n
+from-maker : (kind : ℕ) (k : Pir) (n : List ℕ) → countOf kind ≤ length n → Maker k ≡ addressAt kind (getD n 0 0)
+    → addressed (Maker k) n ≡ recordAt kind n
 from-maker kind k n full known = enough kind n (countOf kind) refl (Maker k) known full
 
 -- The record at the numbers of a record is the record, whatever numbers come after.
-pub back : (s : Sentence) (gsa : Gsa) (gsv : Gsv) (rest : List ℕ) → Held s gsa gsv → recordAt (kindOf s) (numbersOf (beside s gsa gsv) ++ rest) ≡ beside s gsa gsv
+pub back : (s : Sentence) (gsa : Gsa) (gsv : Gsv) (rest : List ℕ) → Held s gsa gsv
+    → recordAt (kindOf s) (numbersOf (beside s gsa gsv) ++ rest) ≡ beside s gsa gsv
 unfolding knownOf addressAt Held
 back (S.Gga t r) gsa gsv rest h = sym (from-talker 1 t _ (omega arith) refl) ∙ ap (λ x. aloneOf (S.Gga t x)) (gga-back t r rest h)
 back (S.Gll t r) gsa gsv rest h = sym (from-talker 2 t _ (omega arith) refl) ∙ ap (λ x. aloneOf (S.Gll t x)) (gll-back t r rest h)

@@ -17,7 +17,8 @@ fn byte_of(v: u32) -> u8
 
 // `A autonomous`: a digit or a letter and what it means.
 fn put_meant(out: &mut [u8], at: usize, v: u32, letters: &[u8], meanings: &[u8]) -> usize
-    ensures { λ r. ⌜ Puts (held at (now (out .entry))) (meantWords (now (letters .entry)) (now (meanings .entry)) v) (held r (now (out .exit))) ⌝ }
+    ensures { λ r. ⌜ Puts (held at (now (out .entry))) (meantWords (now (letters .entry)) (now (meanings .entry)) v)
+        (held r (now (out .exit))) ⌝ }
 {
     let b = byte_of(v);
     let meaning = nth::nth_of(meanings, b',', digits::find(letters, b));

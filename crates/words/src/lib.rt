@@ -20,7 +20,8 @@ fn few(count: u32) -> usize
 
 // The rows of the satellites of a GSV.
 fn put_entries(out: &mut [u8], at: usize, numbers: &[u32], count: u32) -> usize
-    ensures { λ r. ⌜ Puts (held at (now (out .entry))) (entriesText (min 4 count) (drop 5 (now (numbers .entry)))) (held r (now (out .exit))) ⌝ }
+    ensures { λ r. ⌜ Puts (held at (now (out .entry))) (entriesText (min 4 count) (drop 5 (now (numbers .entry))))
+        (held r (now (out .exit))) ⌝ }
 {
     let mut a = at;
     let mut left = few(count);

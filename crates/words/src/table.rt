@@ -68,7 +68,8 @@ pub(crate) fn put_table(
     numbers: &[u32],
     from: usize,
 ) -> usize
-    ensures { λ r. ⌜ Puts (held at (now (out .entry))) (filled 0 (now (table .entry)) (drop from (now (numbers .entry)))) (held r (now (out .exit))) ⌝ }
+    ensures { λ r. ⌜ Puts (held at (now (out .entry))) (filled 0 (now (table .entry)) (drop from (now (numbers .entry))))
+        (held r (now (out .exit))) ⌝ }
 {
     let mut a = at;
     let mut n = past(numbers, 0, from);

@@ -53,16 +53,24 @@ returns : tie.Need-returns
 returns c = c .kind-of .ensures ∙ talks _ _ (omega arith) (hit _ _ _ _ (c .before .before .same-bytes .ensures) (c .before .if1 .taken))
 
 returns-2 : tie.Need-returns-2
-returns-2 c = c .kind-of2 .ensures ∙ talks _ _ (omega arith) (not-gp (c .before .before .before .before) ∙ hit _ _ _ _ (c .before .before .same-bytes2 .ensures) (c .before .if2 .taken))
+returns-2 c = c .kind-of2 .ensures
+    ∙ talks _ _ (omega arith) (not-gp (c .before .before .before .before)
+    ∙ hit _ _ _ _ (c .before .before .same-bytes2 .ensures) (c .before .if2 .taken))
 
 returns-3 : tie.Need-returns-3
-returns-3 c = c .kind-of3 .ensures ∙ talks _ _ (omega arith) (not-gl (c .before .before .before .before) ∙ hit _ _ _ _ (c .before .before .same-bytes3 .ensures) (c .before .if3 .taken))
+returns-3 c = c .kind-of3 .ensures
+    ∙ talks _ _ (omega arith) (not-gl (c .before .before .before .before)
+    ∙ hit _ _ _ _ (c .before .before .same-bytes3 .ensures) (c .before .if3 .taken))
 
 returns-4 : tie.Need-returns-4
-returns-4 c = c .kind-of4 .ensures ∙ talks _ _ (omega arith) (not-ga (c .before .before .before .before) ∙ hit _ _ _ _ (c .before .before .same-bytes4 .ensures) (c .before .if4 .taken))
+returns-4 c = c .kind-of4 .ensures
+    ∙ talks _ _ (omega arith) (not-ga (c .before .before .before .before)
+    ∙ hit _ _ _ _ (c .before .before .same-bytes4 .ensures) (c .before .if4 .taken))
 
 returns-5 : tie.Need-returns-5
-returns-5 c = c .kind-of5 .ensures ∙ talks _ _ (omega arith) (not-gq (c .before .before .before .before) ∙ hit _ _ _ _ (c .before .before .same-bytes5 .ensures) (c .before .if5 .taken))
+returns-5 c = c .kind-of5 .ensures
+    ∙ talks _ _ (omega arith) (not-gq (c .before .before .before .before)
+    ∙ hit _ _ _ _ (c .before .before .same-bytes5 .ensures) (c .before .if5 .taken))
 
 returns-6 : tie.Need-returns-6
 unfolding knownOf lookUp

@@ -21,7 +21,11 @@ shared-slice-read-if1 : tie.Need-shared-slice-read-if1 Inv-loop μ-loop
 shared-slice-read-if1 c = omega arith
 
 returns : tie.Need-returns Inv-loop μ-loop
-returns c = omega (arith, find-here (c .before .before .before .before .args .b) (now (c .before .before .before .before .args .s)) (c .before .before .before .loop .i) (c .before .before .loop-test .taken) (c .if1 .taken))
+returns c = omega (
+  arith,
+  find-here (c .before .before .before .before .args .b) (now (c .before .before .before .before .args .s))
+      (c .before .before .before .loop .i) (c .before .before .loop-test .taken) (c .if1 .taken),
+)
 
 add-i : tie.Need-add-i Inv-loop μ-loop
 add-i c = omega arith
@@ -30,10 +34,18 @@ loop-less : tie.Need-loop-less Inv-loop μ-loop
 loop-less c = omega arith
 
 loop-again : tie.Need-loop-again Inv-loop μ-loop
-loop-again c = omega (arith, find-on (c .before .before .before .before .args .b) (now (c .before .before .before .before .args .s)) (c .before .before .before .loop .i) (c .before .before .loop-test .taken) (c .if1 .left))
+loop-again c = omega (
+  arith,
+  find-on (c .before .before .before .before .args .b) (now (c .before .before .before .before .args .s))
+      (c .before .before .before .loop .i) (c .before .before .loop-test .taken) (c .if1 .left),
+)
 
 returns-2 : tie.Need-returns-2 Inv-loop μ-loop
-returns-2 c = omega (arith, find-end (c .before .before .args .b) (now (c .before .before .args .s)) (c .before .loop .i) (c .loop-test .left))
+returns-2 c = omega (
+  arith,
+  find-end (c .before .before .args .b) (now (c .before .before .args .s)) (c .before .loop .i)
+      (c .loop-test .left),
+)
 
 pub find-spec : {M : Type 1} → statement M
 find-spec =

@@ -27,10 +27,17 @@ returns : tie.Need-returns Inv-loop μ-loop
 returns c = sym (scan-low _ _ _ (c .before .before .loop-test .taken) (c .if1 .taken)) ∙ c .before .before .before .loop .inv .3
 
 returns-2 : tie.Need-returns-2 Inv-loop μ-loop
-returns-2 c = sym (scan-high _ _ _ (c .before .before .before .loop-test .taken) (c .if2 .taken)) ∙ c .before .before .before .before .loop .inv .3
+returns-2 c =
+    let b3 = c .before .before .before in
+    let b4 = b3 .before in
+    sym (scan-high _ _ _ (b3 .loop-test .taken) (c .if2 .taken)) ∙ b4 .loop .inv .3
 
 mul-acc : tie.Need-mul-acc Inv-loop μ-loop
-mul-acc c = omega (arith, room-lt {i = c .before .before .before .before .loop .i} (omega arith) (c .before .before .before .before .loop .inv .2))
+mul-acc c = omega (
+  arith,
+  room-lt {i = c .before .before .before .before .loop .i} (omega arith)
+      (c .before .before .before .before .loop .inv .2),
+)
 
 wide-requires : tie.Need-wide-requires Inv-loop μ-loop
 wide-requires c κs = search needs
@@ -39,7 +46,11 @@ sub-acc : tie.Need-sub-acc Inv-loop μ-loop
 sub-acc c = omega arith
 
 add-acc : tie.Need-add-acc Inv-loop μ-loop
-add-acc c = omega (arith, room-lt {i = c .before .before .before .before .before .loop .i} (omega arith) (c .before .before .before .before .before .loop .inv .2))
+add-acc c = omega (
+  arith,
+  room-lt {i = c .before .before .before .before .before .loop .i} (omega arith)
+      (c .before .before .before .before .before .loop .inv .2),
+)
 
 add-i : tie.Need-add-i Inv-loop μ-loop
 add-i c = omega arith
@@ -52,7 +63,8 @@ loop-again c = (
   omega arith,
   omega arith,
   step-lt 10 (c .before .before .before .before .before .loop .i) (c .before .before .before .before .before .loop .inv .2) (omega arith),
-  rw (c .wide .ensures) (sym (scan-on _ _ _ (c .before .before .before .before .loop-test .taken) (c .before .before .if1 .left) (c .before .if2 .left)) ∙ c .before .before .before .before .before .loop .inv .3),
+  rw (c .wide .ensures) (sym (scan-on _ _ _ (c .before .before .before .before .loop-test .taken) (c .before .before .if1 .left)
+      (c .before .if2 .left)) ∙ c .before .before .before .before .before .loop .inv .3),
 )
 
 returns-3 : tie.Need-returns-3 Inv-loop μ-loop
@@ -61,4 +73,5 @@ returns-3 c = sym (scan-end _ _ _ (c .loop-test .left)) ∙ c .before .loop .inv
 pub scan-spec : {M : Type 1} → statement M
 scan-spec =
     tie.close
-    (tie.spec Inv-loop μ-loop loop-holds shared-slice-read-b returns returns-2 mul-acc wide-requires sub-acc add-acc add-i loop-less loop-again returns-3)
+    (tie.spec Inv-loop μ-loop loop-holds shared-slice-read-b returns returns-2 mul-acc wide-requires sub-acc add-acc add-i loop-less
+    loop-again returns-3)

@@ -5,7 +5,12 @@ use Rattle.dump.proofs.put_entry.Statement.{statement}
 use Rattle.dump.proofs.put_entry.Tie as tie
 
 returns : tie.Need-returns
-returns c = c .before .before .before .before .before .before .before .before .before .before .before .before .before .before .put-value .ensures ⨾ c .before .before .before .before .before .before .before .before .before .before .put-maybe .ensures ⨾ c .before .before .before .before .before .before .put-maybe2 .ensures ⨾ c .before .before .put-maybe3 .ensures
+returns c =
+    let b2 = c .before .before in
+    let b6 = b2 .before .before .before .before in
+    let b10 = b6 .before .before .before .before in
+    let b14 = b10 .before .before .before .before in
+    b14 .put-value .ensures ⨾ b10 .put-maybe .ensures ⨾ b6 .put-maybe2 .ensures ⨾ b2 .put-maybe3 .ensures
 
 pub put-entry-spec : {M : Type 1} → statement M
 put-entry-spec =

@@ -5,7 +5,12 @@ use Rattle.dump.proofs.put_gll.Statement.{statement}
 use Rattle.dump.proofs.put_gll.Tie as tie
 
 returns : tie.Need-returns
-returns c = c .before .before .before .before .before .before .before .before .before .before .before .before .before .before .before .put-place .ensures ⨾ c .before .before .before .before .before .before .before .before .before .before .put-maybe .ensures ⨾ c .before .before .before .before .before .before .put-value .ensures ⨾ c .before .before .put-value2 .ensures
+returns c =
+    let b2 = c .before .before in
+    let b6 = b2 .before .before .before .before in
+    let b10 = b6 .before .before .before .before in
+    let b15 = b10 .before .before .before .before .before in
+    b15 .put-place .ensures ⨾ b10 .put-maybe .ensures ⨾ b6 .put-value .ensures ⨾ b2 .put-value2 .ensures
 
 pub put-gll-spec : {M : Type 1} → statement M
 put-gll-spec =

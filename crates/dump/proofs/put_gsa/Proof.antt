@@ -5,7 +5,15 @@ use Rattle.dump.proofs.put_gsa.Statement.{statement}
 use Rattle.dump.proofs.put_gsa.Tie as tie
 
 returns : tie.Need-returns
-returns c = c .before .before .before .before .before .before .before .before .before .before .before .before .before .before .before .before .before .before .before .before .before .before .before .before .before .before .put-value .ensures ⨾ c .before .before .before .before .before .before .before .before .before .before .before .before .before .before .before .before .before .before .before .before .before .before .put-value2 .ensures ⨾ c .before .before .before .before .before .before .before .before .before .before .before .before .before .before .before .before .before .put-satellites .ensures ⨾ c .before .before .before .before .before .before .before .before .before .before .before .before .put-number .ensures ⨾ c .before .before .before .before .before .before .before .put-number2 .ensures ⨾ c .before .before .put-number3 .ensures
+returns c =
+    let b2 = c .before .before in
+    let b7 = b2 .before .before .before .before .before in
+    let b12 = b7 .before .before .before .before .before in
+    let b17 = b12 .before .before .before .before .before in
+    let b22 = b17 .before .before .before .before .before in
+    let b26 = b22 .before .before .before .before in
+    b26 .put-value .ensures ⨾ b22 .put-value2 .ensures ⨾ b17 .put-satellites .ensures ⨾ b12 .put-number .ensures
+    ⨾ b7 .put-number2 .ensures ⨾ b2 .put-number3 .ensures
 
 pub put-gsa-spec : {M : Type 1} → statement M
 put-gsa-spec =

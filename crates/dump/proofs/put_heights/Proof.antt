@@ -5,7 +5,12 @@ use Rattle.dump.proofs.put_heights.Statement.{statement}
 use Rattle.dump.proofs.put_heights.Tie as tie
 
 returns : tie.Need-returns
-returns c = c .before .before .before .before .before .before .before .before .before .before .before .before .before .before .before .before .before .put-signed .ensures ⨾ c .before .before .before .before .before .before .before .before .before .before .before .before .put-signed2 .ensures ⨾ c .before .before .before .before .before .before .before .put-number .ensures ⨾ c .before .before .put-maybe .ensures
+returns c =
+    let b2 = c .before .before in
+    let b7 = b2 .before .before .before .before .before in
+    let b12 = b7 .before .before .before .before .before in
+    let b17 = b12 .before .before .before .before .before in
+    b17 .put-signed .ensures ⨾ b12 .put-signed2 .ensures ⨾ b7 .put-number .ensures ⨾ b2 .put-maybe .ensures
 
 pub put-heights-spec : {M : Type 1} → statement M
 put-heights-spec =

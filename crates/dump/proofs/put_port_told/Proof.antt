@@ -5,7 +5,12 @@ use Rattle.dump.proofs.put_port_told.Statement.{statement}
 use Rattle.dump.proofs.put_port_told.Tie as tie
 
 returns : tie.Need-returns
-returns c = c .before .before .before .before .before .before .before .before .before .before .before .before .before .before .put-value .ensures ⨾ c .before .before .before .before .before .before .before .before .before .before .put-value2 .ensures ⨾ c .before .before .before .before .before .before .put-value3 .ensures ⨾ c .before .before .put-value4 .ensures
+returns c =
+    let b2 = c .before .before in
+    let b6 = b2 .before .before .before .before in
+    let b10 = b6 .before .before .before .before in
+    let b14 = b10 .before .before .before .before in
+    b14 .put-value .ensures ⨾ b10 .put-value2 .ensures ⨾ b6 .put-value3 .ensures ⨾ b2 .put-value4 .ensures
 
 pub put-port-told-spec : {M : Type 1} → statement M
 put-port-told-spec =

@@ -5,7 +5,17 @@ use Rattle.dump.proofs.put_rmc.Statement.{statement}
 use Rattle.dump.proofs.put_rmc.Tie as tie
 
 returns : tie.Need-returns
-returns c = c .before .before .before .before .before .before .before .before .before .before .before .before .before .before .before .before .before .before .before .before .before .before .before .before .before .before .before .before .before .before .before .before .before .before .before .put-maybe .ensures ⨾ c .before .before .before .before .before .before .before .before .before .before .before .before .before .before .before .before .before .before .before .before .before .before .before .before .before .before .before .before .before .before .before .put-value .ensures ⨾ c .before .before .before .before .before .before .before .before .before .before .before .before .before .before .before .before .before .before .before .before .before .before .before .before .before .before .put-place .ensures ⨾ c .before .before .before .before .before .before .before .before .before .before .before .before .before .before .before .before .before .before .before .before .before .put-knots .ensures ⨾ c .before .before .before .before .before .before .before .before .before .before .before .before .before .before .before .before .put-number .ensures ⨾ c .before .before .before .before .before .before .before .before .before .before .before .put-date .ensures ⨾ c .before .before .before .before .before .before .put-signed .ensures ⨾ c .before .before .put-value2 .ensures
+returns c =
+    let b2 = c .before .before in
+    let b6 = b2 .before .before .before .before in
+    let b11 = b6 .before .before .before .before .before in
+    let b16 = b11 .before .before .before .before .before in
+    let b21 = b16 .before .before .before .before .before in
+    let b26 = b21 .before .before .before .before .before in
+    let b31 = b26 .before .before .before .before .before in
+    let b35 = b31 .before .before .before .before in
+    b35 .put-maybe .ensures ⨾ b31 .put-value .ensures ⨾ b26 .put-place .ensures ⨾ b21 .put-knots .ensures ⨾ b16 .put-number .ensures
+    ⨾ b11 .put-date .ensures ⨾ b6 .put-signed .ensures ⨾ b2 .put-value2 .ensures
 
 pub put-rmc-spec : {M : Type 1} → statement M
 put-rmc-spec =

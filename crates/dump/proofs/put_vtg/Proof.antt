@@ -5,7 +5,13 @@ use Rattle.dump.proofs.put_vtg.Statement.{statement}
 use Rattle.dump.proofs.put_vtg.Tie as tie
 
 returns : tie.Need-returns
-returns c = c .before .before .before .before .before .before .before .before .before .before .before .before .before .before .before .before .before .before .before .before .before .put-number .ensures ⨾ c .before .before .before .before .before .before .before .before .before .before .before .before .before .before .before .before .put-number2 .ensures ⨾ c .before .before .before .before .before .before .before .before .before .before .before .put-knots .ensures ⨾ c .before .before .before .before .before .before .put-kmh .ensures ⨾ c .before .before .put-value .ensures
+returns c =
+    let b2 = c .before .before in
+    let b6 = b2 .before .before .before .before in
+    let b11 = b6 .before .before .before .before .before in
+    let b16 = b11 .before .before .before .before .before in
+    let b21 = b16 .before .before .before .before .before in
+    b21 .put-number .ensures ⨾ b16 .put-number2 .ensures ⨾ b11 .put-knots .ensures ⨾ b6 .put-kmh .ensures ⨾ b2 .put-value .ensures
 
 pub put-vtg-spec : {M : Type 1} → statement M
 put-vtg-spec =

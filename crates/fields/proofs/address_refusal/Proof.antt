@@ -18,8 +18,12 @@ returns : tie.Need-returns
 returns c = line-refused _ _ (c .before .line-refusal .ensures) (c .if1 .taken)
 
 -- the number of the address that was found
-decided : (c : tie.After-address-of) → unknownNo (c .address-of .result) ≡ addressRefusal (c .before .before .before .before .before .args .line .now)
-decided c = address-refused _ _ (c .before .before .before .line-refusal .ensures) (c .before .before .if1 .left) _ (c .address-of .ensures)
+decided : (c : tie.After-address-of)
+    → unknownNo (c .address-of .result) ≡ addressRefusal (c .before .before .before .before .before .args .line .now)
+decided c =
+    let b2 = c .before .before in
+    let b3 = b2 .before in
+    address-refused _ _ (b3 .line-refusal .ensures) (b2 .if1 .left) _ (c .address-of .ensures)
 
 returns-2 : tie.Need-returns-2
 returns-2 c = sym (ap unknownNo (c .enum-told .given .1)) ∙ decided (c .before .before)

@@ -41,7 +41,8 @@ returns-3 c =
     let a = c .before .before .before .before .before .before .before .before .before .before .args in
     let q = c .before .before .before .before .places .ensures in
     let h = c .before .if3 .taken in
-    let r = past-last (a .line .now) (a .n) (known (c .before .before .before .before .before .before .before)) (omega arith) (rw (q .fields, body-part) at h) in
+    let r = past-last (a .line .now) (a .n) (known (c .before .before .before .before .before .before .before)) (omega arith)
+    (rw (q .fields, body-part) at h) in
     (record { block = search needs; place = moved 0 _ _ (r .at); holds = r .holds }, r .number)
 
 returns-4 : tie.Need-returns-4
@@ -49,7 +50,8 @@ returns-4 c =
     let a = c .before .before .before .before .before .before .before .before .before .before .before .args in
     let q = c .before .before .before .before .before .places .ensures in
     let h = c .before .before .if3 .left in
-    let r = placed (a .line .now) (a .n) (known (c .before .before .before .before .before .before .before .before)) (omega arith) (replicate 80 0) refl (rw (q .fields, body-part) at h) in
+    let r = placed (a .line .now) (a .n) (known (c .before .before .before .before .before .before .before .before)) (omega arith)
+    (replicate 80 0) refl (rw (q .fields, body-part) at h) in
     let f = c .field-in .ensures in (
       record {
         block = search needs;

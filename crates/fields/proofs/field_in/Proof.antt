@@ -25,19 +25,22 @@ returns-2 c =
 returns-3 : tie.Need-returns-3
 returns-3 c =
     let a = c .before .before .before .before .before .args in
-    let r = first-part (a .p .now) (a .k) (a .s .now) (c .before .before .before .before .if1 .left) (c .before .before .if2 .left) (c .before .if3 .taken) in
+    let r = first-part (a .p .now) (a .k) (a .s .now) (c .before .before .before .before .if1 .left) (c .before .before .if2 .left)
+    (c .before .if3 .taken) in
     record { block = search needs; place = moved 0 _ _ (r .0); holds = r .1 }
 
 returns-4 : tie.Need-returns-4
 returns-4 c =
     let a = c .before .before .before .before .before .before .before .args in
-    let r = not-past (a .p .now) (a .k) (a .s .now) (c .before .before .before .before .before .before .if1 .left) (c .before .before .before .before .if2 .left) (c .before .before .before .if3 .left) (c .before .if4 .taken) in
+    let r = not-past (a .p .now) (a .k) (a .s .now) (c .before .before .before .before .before .before .if1 .left)
+    (c .before .before .before .before .if2 .left) (c .before .before .before .if3 .left) (c .before .if4 .taken) in
     record { block = search needs; place = moved 0 _ _ (r .0); holds = r .1 }
 
 returns-5 : tie.Need-returns-5
 returns-5 c =
     let a = c .before .before .before .before .before .before .before .args in
-    let r = later-part (a .p .now) (a .k) (a .s .now) (c .before .before .before .before .before .before .if1 .left) (c .before .before .before .before .if2 .left) (c .before .before .before .if3 .left) (c .before .if4 .left) in
+    let r = later-part (a .p .now) (a .k) (a .s .now) (c .before .before .before .before .before .before .if1 .left)
+    (c .before .before .before .before .if2 .left) (c .before .before .before .if3 .left) (c .before .if4 .left) in
     record { block = search needs; place = moved _ _ _ (r .0); holds = r .1 }
 
 pub field-in-spec : {M : Type 1} → statement M

@@ -14,7 +14,8 @@ use Rattle.fields.proofs.places.Tie as tie
 
 abbrev Inv-loop : tie.InvT-loop
 Inv-loop s p₀ n₀ i₀ p n i =
-    (i ≤ length s) × (n ≤ i) × (length p ≡ length p₀) × (n + length (endsFrom i (drop i s)) ≡ length (endsFrom 0 s)) × (sets p n (endsFrom i (drop i s)) ≡ sets p₀ 0 (endsFrom 0 s))
+    (i ≤ length s) × (n ≤ i) × (length p ≡ length p₀) × (n + length (endsFrom i (drop i s)) ≡ length (endsFrom 0 s))
+    × (sets p n (endsFrom i (drop i s)) ≡ sets p₀ 0 (endsFrom 0 s))
 
 abbrev μ-loop : tie.MeasureT-loop
 μ-loop s p₀ n₀ i₀ p n i = length s - i
@@ -50,8 +51,11 @@ loop-again c =
 
 same-length : tie.Need-same-length Inv-loop μ-loop
 same-length c =
-    let l = c .before .before .before .before .before .loop in
-    set-same (l .p) _ (c .before .before .before .before .before .before .before .before .args .p .now) (l .n) (l .i) (c .before .before .mark2 .ensures) (l .inv .2)
+    let b2 = c .before .before in
+    let b5 = b2 .before .before .before in
+    let b8 = b5 .before .before .before in
+    let l = b5 .loop in
+    set-same (l .p) _ (b8 .args .p .now) (l .n) (l .i) (b2 .mark2 .ensures) (l .inv .2)
 
 returns : tie.Need-returns Inv-loop μ-loop
 returns c =

@@ -6,7 +6,16 @@ use Rattle.frame.proofs.put_end.Statement.{statement}
 use Rattle.frame.proofs.put_end.Tie as tie
 
 returns : tie.Need-returns
-returns c = c .before .before .before .before .before .before .before .before .before .before .before .before .before .before .before .before .before .put .ensures ⨾ ((rw (c .before .before .before .before .before .before .before .before .before .before .before .before .before .hex-of .ensures, high-half (c .before .before .before .before .before .before .before .before .before .before .before .before .before .before .before .before .before .before .before .before .args .x) (c .before .before .before .before .before .before .before .before .before .before .before .before .before .before .before .before .before .before .before .before .fits .x .fits)) at (c .before .before .before .before .before .before .before .before .before .before .before .before .put2 .ensures)) ⨾ ((rw (c .before .before .before .before .before .before .before .before .hex-of2 .ensures) at (c .before .before .before .before .before .before .before .put3 .ensures)) ⨾ c .before .before .put-bytes .ensures))
+returns c =
+    let b2 = c .before .before in
+    let b7 = b2 .before .before .before .before .before in
+    let b8 = b7 .before in
+    let b12 = b8 .before .before .before .before in
+    let b13 = b12 .before in
+    let b17 = b13 .before .before .before .before in
+    let b20 = b17 .before .before .before in
+    b17 .put .ensures ⨾ ((rw (b13 .hex-of .ensures, high-half (b20 .args .x) (b20 .fits .x .fits)) at (b12 .put2 .ensures))
+    ⨾ ((rw (b8 .hex-of2 .ensures) at (b7 .put3 .ensures)) ⨾ b2 .put-bytes .ensures))
 
 pub put-end-spec : {M : Type 1} → statement M
 put-end-spec =

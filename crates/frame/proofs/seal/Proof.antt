@@ -5,7 +5,12 @@ use Rattle.frame.proofs.seal.Statement.{statement}
 use Rattle.frame.proofs.seal.Tie as tie
 
 returns : tie.Need-returns
-returns c = c .before .before .before .before .before .before .before .before .before .before .put .ensures ⨾ (c .before .before .before .before .before .before .put-bytes .ensures ⨾ (rw (c .before .before .before .before .before .before .before .before .before .before .before .before .xor-of .ensures) at (c .before .before .put-end .ensures)))
+returns c =
+    let b2 = c .before .before in
+    let b6 = b2 .before .before .before .before in
+    let b10 = b6 .before .before .before .before in
+    let b12 = b10 .before .before in
+    b10 .put .ensures ⨾ (b6 .put-bytes .ensures ⨾ (rw (b12 .xor-of .ensures) at (b2 .put-end .ensures)))
 
 pub seal-spec : {M : Type 1} → statement M
 seal-spec =

@@ -28,10 +28,17 @@ loop-less : tie.Need-loop-less Inv-loop μ-loop
 loop-less c = omega arith
 
 loop-again : tie.Need-loop-again Inv-loop μ-loop
-loop-again c = (omega arith, sym (xor-next (c .before .before .before .args .s .now) (c .before .before .loop .i) (c .before .loop-test .taken) (c .before .before .loop .xor)) ∙ c .before .before .loop .inv .1)
+loop-again c = (
+  omega arith,
+  sym
+      (xor-next (c .before .before .before .args .s .now) (c .before .before .loop .i) (c .before .loop-test .taken)
+      (c .before .before .loop .xor)) ∙ c .before .before .loop .inv .1,
+)
 
 returns : tie.Need-returns Inv-loop μ-loop
-returns c = sym (xor-end (c .before .before .args .s .now) (c .before .loop .i) (c .loop-test .left) (c .before .loop .xor)) ∙ c .before .loop .inv .1
+returns c =
+    let b2 = c .before .before in
+    sym (xor-end (b2 .args .s .now) (c .before .loop .i) (c .loop-test .left) (c .before .loop .xor)) ∙ c .before .loop .inv .1
 
 pub xor-of-spec : {M : Type 1} → statement M
 xor-of-spec =

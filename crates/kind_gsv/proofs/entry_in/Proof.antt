@@ -12,7 +12,19 @@ returns c = rw (not-true (c .before .before .before .before .args .used) (c .bef
 
 returns-2 : tie.Need-returns-2
 unfolding entryForm
-returns-2 c = c .entry-from .ensures ∙ rw (not-false (c .before .before .before .before .before .before .before .before .args .used) (c .before .before .before .before .before .if1 .left), c .before .fixed-in3 .ensures, c .before .before .fixed-in2 .ensures, c .before .before .before .fixed-in .ensures, c .before .before .before .before .exact-in .ensures)
+returns-2 c =
+    let b2 = c .before .before in
+    let b3 = b2 .before in
+    let b4 = b3 .before in
+    let b5 = b4 .before in
+    let b8 = b5 .before .before .before in
+    c .entry-from .ensures ∙ rw (
+      not-false (b8 .args .used) (b5 .if1 .left),
+      c .before .fixed-in3 .ensures,
+      b2 .fixed-in2 .ensures,
+      b3 .fixed-in .ensures,
+      b4 .exact-in .ensures,
+    )
 
 pub entry-in-spec : {M : Type 1} → statement M
 entry-in-spec =

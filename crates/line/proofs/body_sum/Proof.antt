@@ -1,4 +1,5 @@
--- `body_sum` meets its contract: what was found so far, with what is left, gives what the whole gives. Its table is the one that the definition of a body byte fills, as antt computes.
+-- `body_sum` meets its contract: what was found so far, with what is left, gives what the whole gives. Its table is the one that the
+-- definition of a body byte fills, as antt computes.
 use Prim.Native.Nat.{_≤_, _-_}
 use mathlib.Core.Path.{_≡_, refl, sym, _∙_}
 use mathlib.Core.Bool.{_&&_}
@@ -14,7 +15,8 @@ use Rattle.line.proofs.body_sum.Tie as tie
 
 abbrev Inv-loop : tie.InvT-loop
 Inv-loop s table marks₀ xor₀ i₀ marks xor i =
-    (i ≤ length s) × (marks ≡ marked (eqb marks 49)) × (bodyBytes s ≡ (eqb marks 49 && bodyBytes (drop i s))) × (xorOf s ≡ xorFrom xor (drop i s))
+    (i ≤ length s) × (marks ≡ marked (eqb marks 49)) × (bodyBytes s ≡ (eqb marks 49 && bodyBytes (drop i s)))
+    × (xorOf s ≡ xorFrom xor (drop i s))
 
 abbrev μ-loop : tie.MeasureT-loop
 μ-loop s table marks₀ xor₀ i₀ marks xor i = length s - i
@@ -25,7 +27,8 @@ loop-holds c = (omega arith, refl, refl, refl)
 
 -- what the code's table says of the byte read
 says : (c : tie.After-mark Inv-loop μ-loop) → c .mark .result
-    ≡ marked (bodyByte (getD (c .before .before .before .before .before .before .args .s .now) (c .before .before .before .before .loop .i) 0))
+    ≡ marked (bodyByte (getD (c .before .before .before .before .before .before .args .s .now)
+    (c .before .before .before .before .loop .i) 0))
 unfolding bodyByte noneOf
 says c = c .mark .ensures .0 ∙ mark-at bodyByte 256 _ (c .mark .ensures .1)
 

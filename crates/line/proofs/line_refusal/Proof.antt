@@ -35,8 +35,10 @@ returns-5 c =
     sym (line-bad _ (omega arith) (omega arith) (a .before .before .before .if3 .left) (has-end a) (rw body-part at e))
 
 -- all is as it should be but for the digits
-digits-left : (c : tie.Else5) → lineRefusal (c .before .before .before .before .before .before .before .before .before .before .before .before .args .line .now)
-    ≡ cond (endGives (c .before .before .body-sum .result .xor) (endOf (c .before .before .before .before .before .before .before .before .before .before .before .before .args .line .now))) 0 2
+digits-left : (c : tie.Else5) → lineRefusal
+    (c .before .before .before .before .before .before .before .before .before .before .before .before .args .line .now)
+    ≡ cond (endGives (c .before .before .body-sum .result .xor)
+    (endOf (c .before .before .before .before .before .before .before .before .before .before .before .before .args .line .now))) 0 2
 digits-left c =
     let e = sym (c .before .before .body-sum .ensures .0) ∙ not-false _ (c .if5 .left) in
     let a = c .before .before .before .before in

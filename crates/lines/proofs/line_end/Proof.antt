@@ -15,10 +15,18 @@ abbrev μ-loop : tie.MeasureT-loop
 μ-loop s at i₀ i = length s - i
 
 returns : tie.Need-returns Inv-loop μ-loop
-returns c = omega (arith, width-lf (c .before .before .before .before .args .s .now) (c .before .before .before .loop .i) (c .before .before .loop-test .taken) (c .if1 .taken))
+returns c = omega (
+  arith,
+  width-lf (c .before .before .before .before .args .s .now) (c .before .before .before .loop .i)
+      (c .before .before .loop-test .taken) (c .if1 .taken),
+)
 
 loop-again : tie.Need-loop-again Inv-loop μ-loop
-loop-again c = omega (arith, width-other (c .before .before .before .before .args .s .now) (c .before .before .before .loop .i) (c .before .before .loop-test .taken) (c .if1 .left))
+loop-again c = omega (
+  arith,
+  width-other (c .before .before .before .before .args .s .now) (c .before .before .before .loop .i)
+      (c .before .before .loop-test .taken) (c .if1 .left),
+)
 
 returns-2 : tie.Need-returns-2 Inv-loop μ-loop
 returns-2 c = omega (arith, width-end (c .before .before .args .s .now) (c .before .loop .i) (c .loop-test .left))

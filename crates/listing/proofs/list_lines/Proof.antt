@@ -13,7 +13,8 @@ use Rattle.listing.proofs.list_lines.Statement.{statement}
 use Rattle.listing.proofs.list_lines.Tie as tie
 
 abbrev Inv-loop : tie.InvT-loop
-Inv-loop s out₀ rows dumps number₀ at₀ place₀ written₀ out number at place written = (at ≤ length s) × (openLine (take at s) ≡ []) × (length out ≡ length out₀)
+Inv-loop s out₀ rows dumps number₀ at₀ place₀ written₀ out number at place written = (at ≤ length s) × (openLine (take at s) ≡ [])
+    × (length out ≡ length out₀)
 
 abbrev μ-loop : tie.MeasureT-loop
 μ-loop s out₀ rows dumps number₀ at₀ place₀ written₀ out number at place written = length s - at
@@ -23,10 +24,13 @@ unfolding openLine afterLast fromLast
 loop-holds c = (omega arith, refl, refl)
 
 -- a line that was found: it lies in `s`, and past it no line is open
-at-line : (c : tie.Else1 Inv-loop μ-loop) → NextLine (c .before .before .before .before .before .before .args .s .now) (c .before .before .before .loop .at) (c .before .before .next-line .result)
+at-line : (c : tie.Else1 Inv-loop μ-loop) → NextLine (c .before .before .before .before .before .before .args .s .now)
+    (c .before .before .before .loop .at) (c .before .before .next-line .result)
 at-line c =
-    let e = c .before .before .next-line .ensures in
-    rw e (slice-line _ _ (c .before .before .before .loop .inv .1) (sym (ap (λ (r : Found). r .line) e) ∙ not-false _ (c .if1 .left)))
+    let b2 = c .before .before in
+    let b3 = b2 .before in
+    let e = b2 .next-line .ensures in
+    rw e (slice-line _ _ (b3 .loop .inv .1) (sym (ap (λ (r : Found). r .line) e) ∙ not-false _ (c .if1 .left)))
 
 starts : (c : tie.Else1 Inv-loop μ-loop) → c .before .before .next-line .result .start ≤ c .before .before .next-line .result .end
 starts c = rw (c .before .before .next-line .ensures) (slice-within _ _ (c .before .before .before .loop .inv .0) .1)
@@ -35,10 +39,12 @@ same-length : tie.Need-same-length Inv-loop μ-loop
 same-length c = c .before .before .before .before .before .loop .inv .2
 
 loop-again : tie.Need-loop-again Inv-loop μ-loop
-loop-again c = let n = at-line (c .before .before .before .before .before .before .before .before .before .before .before) in (n .within, n .shut, omega arith)
+loop-again c = let n = at-line (c .before .before .before .before .before .before .before .before .before .before .before) in
+    (n .within, n .shut, omega arith)
 
 loop-again-2 : tie.Need-loop-again-2 Inv-loop μ-loop
-loop-again-2 c = let n = at-line (c .before .before .before .before .before .before .before .before .before) in (n .within, n .shut, omega arith)
+loop-again-2 c = let n = at-line (c .before .before .before .before .before .before .before .before .before) in
+    (n .within, n .shut, omega arith)
 
 pub list-lines-spec : {M : Type 1} → statement M
 list-lines-spec =
@@ -58,7 +64,9 @@ list-lines-spec =
     (λ c κs. search needs)
     (λ c κs. search needs)
     (λ c κs. search needs)
-    (λ c. let n = at-line (c .before .before .before .before .before .before .before .before .before .before .before) in omega (arith, n .onward, n .within))
+    (λ c. let n = at-line (c .before .before .before .before .before .before .before .before .before .before .before) in omega
+    (arith, n .onward, n .within))
     loop-again
-    (λ c. let n = at-line (c .before .before .before .before .before .before .before .before .before) in omega (arith, n .onward, n .within))
+    (λ c. let n = at-line (c .before .before .before .before .before .before .before .before .before) in omega
+    (arith, n .onward, n .within))
     loop-again-2)

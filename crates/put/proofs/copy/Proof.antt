@@ -10,7 +10,8 @@ use Rattle.put.proofs.copy.Statement.{statement}
 use Rattle.put.proofs.copy.Tie as tie
 
 abbrev Inv-loop : tie.InvT-loop
-Inv-loop out₀ at s i₀ out i = (i ≤ length s) × ((length out ≡ length out₀) × ((at + length s ≤ length out₀) × (wrote (held (at + i) out) (drop i s) ≡ wrote (held at out₀) s)))
+Inv-loop out₀ at s i₀ out i = (i ≤ length s)
+    × ((length out ≡ length out₀) × ((at + length s ≤ length out₀) × (wrote (held (at + i) out) (drop i s) ≡ wrote (held at out₀) s)))
 
 abbrev μ-loop : tie.MeasureT-loop
 μ-loop out₀ at s i₀ out i = length s - i
@@ -34,7 +35,18 @@ loop-less : tie.Need-loop-less Inv-loop μ-loop
 loop-less c = omega arith
 
 loop-again : tie.Need-loop-again Inv-loop μ-loop
-loop-again c = (omega arith, (simp length-set (c .before .before .loop .inv .1 .0), (c .before .before .loop .inv .1 .1 .0, copy-next (c .before .before .before .args .s .now) (c .before .before .loop .out) (c .before .before .before .args .at) (c .before .before .loop .i) (c .before .loop-test .taken) (omega arith) ∙ c .before .before .loop .inv .1 .1 .1)))
+loop-again c = (
+  omega arith,
+  (
+    simp length-set (c .before .before .loop .inv .1 .0),
+    (
+      c .before .before .loop .inv .1 .1 .0,
+      copy-next (c .before .before .before .args .s .now) (c .before .before .loop .out)
+          (c .before .before .before .args .at) (c .before .before .loop .i) (c .before .loop-test .taken) (omega arith)
+          ∙ c .before .before .loop .inv .1 .1 .1,
+    ),
+  ),
+)
 
 add-result : tie.Need-add-result Inv-loop μ-loop
 add-result c = omega arith
@@ -43,7 +55,12 @@ same-length : tie.Need-same-length Inv-loop μ-loop
 same-length c = c .before .loop .inv .1 .0
 
 returns : tie.Need-returns Inv-loop μ-loop
-returns c = record { is = put-end (c .before .before .args .s .now) (c .before .loop .i) (held (c .before .before .args .at + c .before .loop .i) (c .before .loop .out)) (c .loop-test .left) ∙ c .before .loop .inv .1 .1 .1 }
+returns c =
+    let b2 = c .before .before in
+    record {
+      is = put-end (b2 .args .s .now) (c .before .loop .i) (held (b2 .args .at + c .before .loop .i) (c .before .loop .out))
+          (c .loop-test .left) ∙ c .before .loop .inv .1 .1 .1;
+    }
 
 pub copy-spec : {M : Type 1} → statement M
 copy-spec =

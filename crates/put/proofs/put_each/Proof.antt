@@ -9,7 +9,8 @@ use Rattle.put.proofs.put_each.Statement.{statement}
 use Rattle.put.proofs.put_each.Tie as tie
 
 abbrev Inv-loop : tie.InvT-loop
-Inv-loop out₀ at s place₀ i₀ out place i = (i ≤ length s) × ((length out ≡ length out₀) × (wrote (held place out) (drop i s) ≡ wrote (held at out₀) s))
+Inv-loop out₀ at s place₀ i₀ out place i = (i ≤ length s)
+    × ((length out ≡ length out₀) × (wrote (held place out) (drop i s) ≡ wrote (held at out₀) s))
 
 abbrev μ-loop : tie.MeasureT-loop
 μ-loop out₀ at s place₀ i₀ out place i = length s - i
@@ -30,13 +31,26 @@ loop-less : tie.Need-loop-less Inv-loop μ-loop
 loop-less c = omega arith
 
 loop-again : tie.Need-loop-again Inv-loop μ-loop
-loop-again c = (omega arith, (omega arith, put-next (c .before .before .before .before .before .before .before .before .before .args .s .now) (c .before .before .before .before .before .before .loop .i) (c .before .before .before .before .before .loop-test .taken) (c .before .before .put .ensures) ∙ c .before .before .before .before .before .before .loop .inv .1 .1))
+loop-again c = (
+  omega arith,
+  (
+    omega arith,
+    put-next (c .before .before .before .before .before .before .before .before .before .args .s .now)
+        (c .before .before .before .before .before .before .loop .i) (c .before .before .before .before .before .loop-test .taken)
+        (c .before .before .put .ensures) ∙ c .before .before .before .before .before .before .loop .inv .1 .1,
+  ),
+)
 
 same-length : tie.Need-same-length Inv-loop μ-loop
 same-length c = c .before .loop .inv .1 .0
 
 returns : tie.Need-returns Inv-loop μ-loop
-returns c = record { is = put-end (c .before .before .before .before .args .s .now) (c .before .loop .i) (held (c .before .loop .place) (c .before .loop .out)) (c .loop-test .left) ∙ c .before .loop .inv .1 .1 }
+returns c =
+    let b4 = c .before .before .before .before in
+    record {
+      is = put-end (b4 .args .s .now) (c .before .loop .i) (held (c .before .loop .place) (c .before .loop .out))
+          (c .loop-test .left) ∙ c .before .loop .inv .1 .1;
+    }
 
 pub put-each-spec : {M : Type 1} → statement M
 put-each-spec =

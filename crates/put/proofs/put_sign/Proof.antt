@@ -9,10 +9,14 @@ use Rattle.put.proofs.put_sign.Statement.{statement}
 use Rattle.put.proofs.put_sign.Tie as tie
 
 returns : tie.Need-returns
-returns c = as-text (sign-minus (c .before .before .before .before .before .before .args .z) (rw (toZ-ofZ {w = w32} {z = c .before .before .before .before .before .before .args .z} (search needs)) at (c .before .before .before .before .if1 .taken))) (c .before .before .put .ensures)
+returns c = as-text (sign-minus (c .before .before .before .before .before .before .args .z)
+    (rw (toZ-ofZ {w = w32} {z = c .before .before .before .before .before .before .args .z} (search needs)) at
+    (c .before .before .before .before .if1 .taken))) (c .before .before .put .ensures)
 
 returns-2 : tie.Need-returns-2
-returns-2 c = as-text (sign-none (c .before .before .args .z) (rw (toZ-ofZ {w = w32} {z = c .before .before .args .z} (search needs)) at (c .if1 .left))) (nothing-put (held (c .before .before .args .at) (c .before .before .args .out .now)))
+returns-2 c = as-text (sign-none (c .before .before .args .z)
+    (rw (toZ-ofZ {w = w32} {z = c .before .before .args .z} (search needs)) at (c .if1 .left)))
+    (nothing-put (held (c .before .before .args .at) (c .before .before .args .out .now)))
 
 pub put-sign-spec : {M : Type 1} → statement M
 put-sign-spec = tie.close (tie.spec (λ c κs. search needs) (λ c. search needs) returns returns-2)

@@ -7,25 +7,55 @@ use Rattle.reading.proofs.read_body.Statement.{statement}
 use Rattle.reading.proofs.read_body.Tie as tie
 
 returns : tie.Need-returns
-returns c = c .alone .ensures ∙ read-many _ _ _ (c .before .before .before .before .before .before .places .ensures) _ (c .before .before .before .before .address-of .ensures) (c .before .before .before .if1 .taken) _ _ (c .before .enum-told .given .1)
+returns c =
+    let b3 = c .before .before .before in
+    let b4 = b3 .before in
+    let b6 = b4 .before .before in
+    c .alone .ensures ∙ read-many _ _ _ (b6 .places .ensures) _ (b4 .address-of .ensures) (b3 .if1 .taken) _ _
+    (c .before .enum-told .given .1)
 
 returns-2 : tie.Need-returns-2
-returns-2 c = c .alone2 .ensures ∙ read-many-maker _ _ _ (c .before .before .before .before .before .before .places .ensures) _ (c .before .before .before .before .address-of .ensures) (c .before .before .before .if1 .taken) _ (c .before .enum-told2 .given .1)
+returns-2 c =
+    let b3 = c .before .before .before in
+    let b4 = b3 .before in
+    let b6 = b4 .before .before in
+    c .alone2 .ensures ∙ read-many-maker _ _ _ (b6 .places .ensures) _ (b4 .address-of .ensures) (b3 .if1 .taken) _
+    (c .before .enum-told2 .given .1)
 
 returns-3 : tie.Need-returns-3
-returns-3 c = c .alone3 .ensures ∙ read-unknown _ _ _ (c .before .before .before .before .before .before .places .ensures) _ (c .before .before .before .before .address-of .ensures) (c .before .enum-told3 .given .1)
+returns-3 c =
+    let b4 = c .before .before .before .before in
+    let b6 = b4 .before .before in
+    c .alone3 .ensures ∙ read-unknown _ _ _ (b6 .places .ensures) _ (b4 .address-of .ensures) (c .before .enum-told3 .given .1)
 
 sub-n : tie.Need-sub-n
-sub-n c = omega (arith, c .before .before .before .places .ensures .fields, some-field (c .before .before .before .before .before .before .args .s .now))
+sub-n c = omega (
+  arith,
+  c .before .before .before .places .ensures .fields,
+  some-field (c .before .before .before .before .before .before .args .s .now),
+)
 
 returns-4 : tie.Need-returns-4
-returns-4 c = c .standard .ensures ∙ read-few _ _ _ (c .before .before .before .before .before .before .before .before .places .ensures) _ (c .before .before .before .before .before .before .address-of .ensures) (c .before .before .before .before .before .if1 .left) _ _ (c .before .before .before .address .given .1)
+returns-4 c =
+    let b3 = c .before .before .before in
+    let b5 = b3 .before .before in
+    let b6 = b5 .before in
+    let b8 = b6 .before .before in
+    c .standard .ensures ∙ read-few _ _ _ (b8 .places .ensures) _ (b6 .address-of .ensures) (b5 .if1 .left) _ _ (b3 .address .given .1)
 
 returns-5 : tie.Need-returns-5
-returns-5 c = c .maker .ensures ∙ read-few-maker _ _ _ (c .before .before .before .before .before .before .before .before .places .ensures) _ (c .before .before .before .before .before .before .address-of .ensures) (c .before .before .before .before .before .if1 .left) _ (c .before .before .before .address2 .given .1)
+returns-5 c =
+    let b3 = c .before .before .before in
+    let b5 = b3 .before .before in
+    let b6 = b5 .before in
+    let b8 = b6 .before .before in
+    c .maker .ensures ∙ read-few-maker _ _ _ (b8 .places .ensures) _ (b6 .address-of .ensures) (b5 .if1 .left) _ (b3 .address2 .given .1)
 
 returns-6 : tie.Need-returns-6
-returns-6 c = c .alone4 .ensures ∙ read-unknown _ _ _ (c .before .before .before .before .before .before .places .ensures) _ (c .before .before .before .before .address-of .ensures) (c .before .enum-told4 .given .1)
+returns-6 c =
+    let b4 = c .before .before .before .before in
+    let b6 = b4 .before .before in
+    c .alone4 .ensures ∙ read-unknown _ _ _ (b6 .places .ensures) _ (b4 .address-of .ensures) (c .before .enum-told4 .given .1)
 
 pub read-body-spec : {M : Type 1} → statement M
 read-body-spec =

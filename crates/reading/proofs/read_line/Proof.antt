@@ -17,7 +17,9 @@ long c = passes-long _ (sym (c .before .line-refusal .ensures) ∙ c .if1 .left)
 
 returns : tie.Need-returns
 unfolding readLine
-returns c = c .alone .ensures ∙ rw (c .before .before .line-refusal .ensures, ne-eqb _ _ (rw (c .before .before .line-refusal .ensures) at (c .before .if1 .taken)))
+returns c =
+    let b2 = c .before .before in
+    c .alone .ensures ∙ rw (b2 .line-refusal .ensures, ne-eqb _ _ (rw (b2 .line-refusal .ensures) at (c .before .if1 .taken)))
 
 sub-end : tie.Need-sub-end
 sub-end c = omega (arith, long c)
@@ -33,7 +35,10 @@ part-read-body-end c = let l = long c in search needs
 
 returns-2 : tie.Need-returns-2
 unfolding readLine
-returns-2 c = c .read-body .ensures ∙ rw (body-part, eq-eqb _ _ (sym (c .before .before .before .line-refusal .ensures) ∙ c .before .before .if1 .left))
+returns-2 c =
+    let b2 = c .before .before in
+    let b3 = b2 .before in
+    c .read-body .ensures ∙ rw (body-part, eq-eqb _ _ (sym (b3 .line-refusal .ensures) ∙ b2 .if1 .left))
 
 pub read-line-spec : {M : Type 1} → statement M
 read-line-spec =

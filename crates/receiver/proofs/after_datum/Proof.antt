@@ -12,7 +12,10 @@ returns c = rw (not-true (c .before .before .args .r .datum .there) (c .if1 .tak
 returns-2 : tie.Need-returns-2
 returns-2 c =
     let args = c .before .before .before .before .before .args in
-    rw (not-false (args .r .datum .there) (c .before .before .before .if1 .left), toZ-ofZ {w = w32} {z = args .r .zone .minutes} (search needs))
+    rw (
+      not-false (args .r .datum .there) (c .before .before .before .if1 .left),
+      toZ-ofZ {w = w32} {z = args .r .zone .minutes} (search needs),
+    )
 
 pub after-datum-spec : {M : Type 1} → statement M
 after-datum-spec = tie.close (tie.spec returns returns-2)

@@ -6,10 +6,22 @@ use Rattle.rows.proofs.put_answer.Statement.{statement}
 use Rattle.rows.proofs.put_answer.Tie as tie
 
 returns : tie.Need-returns
-returns c = as-text (was-read (c .before .before .before .before .before .before .before .before .args .r) (c .before .before .before .before .before .if1 .taken)) (c .before .before .put-bytes .ensures)
+returns c =
+    let b2 = c .before .before in
+    let b5 = b2 .before .before .before in
+    let b8 = b5 .before .before .before in
+    as-text (was-read (b8 .args .r) (b5 .if1 .taken)) (b2 .put-bytes .ensures)
 
 returns-2 : tie.Need-returns-2
-returns-2 c = as-text (was-refused (c .before .before .before .before .before .before .before .before .before .before .before .before .before .before .before .before .before .before .before .before .before .args .r) (c .before .before .before .before .before .before .before .before .before .before .before .before .before .before .before .before .before .before .if1 .left)) (c .before .before .before .before .before .before .before .before .before .before .before .before .before .before .before .put-bytes2 .ensures ⨾ (c .before .before .before .before .before .before .before .before .before .before .put-number .ensures ⨾ (c .before .before .before .before .before .before .put .ensures ⨾ c .before .before .put-number2 .ensures)))
+returns-2 c =
+    let b2 = c .before .before in
+    let b6 = b2 .before .before .before .before in
+    let b10 = b6 .before .before .before .before in
+    let b15 = b10 .before .before .before .before .before in
+    let b18 = b15 .before .before .before in
+    let b21 = b18 .before .before .before in
+    as-text (was-refused (b21 .args .r) (b18 .if1 .left))
+    (b15 .put-bytes2 .ensures ⨾ (b10 .put-number .ensures ⨾ (b6 .put .ensures ⨾ b2 .put-number2 .ensures)))
 
 pub put-answer-spec : {M : Type 1} → statement M
 put-answer-spec =

@@ -9,10 +9,17 @@ use Rattle.rows.proofs.put_asked.Statement.{statement}
 use Rattle.rows.proofs.put_asked.Tie as tie
 
 returns : tie.Need-returns
-returns c = as-text (ap (λ (b : Bool). askedText b (c .before .before .before .before .before .before .args .reading)) (sym (c .before .before .before .before .if1 .taken))) (c .before .before .put-record .ensures)
+returns c =
+    let b2 = c .before .before in
+    let b4 = b2 .before .before in
+    let b6 = b4 .before .before in
+    as-text (ap (λ (b : Bool). askedText b (b6 .args .reading)) (sym (b4 .if1 .taken))) (b2 .put-record .ensures)
 
 returns-2 : tie.Need-returns-2
-returns-2 c = as-text (ap (λ (b : Bool). askedText b (c .before .before .args .reading)) (sym (c .if1 .left))) (nothing-put (held (c .before .before .args .at) (c .before .before .args .out .now)))
+returns-2 c =
+    let b2 = c .before .before in
+    as-text (ap (λ (b : Bool). askedText b (b2 .args .reading)) (sym (c .if1 .left)))
+    (nothing-put (held (b2 .args .at) (b2 .args .out .now)))
 
 pub put-asked-spec : {M : Type 1} → statement M
 put-asked-spec = tie.close (tie.spec (λ c κs. search needs) (λ c. search needs) returns returns-2)

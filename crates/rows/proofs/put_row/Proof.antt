@@ -5,7 +5,17 @@ use Rattle.rows.proofs.put_row.Statement.{statement}
 use Rattle.rows.proofs.put_row.Tie as tie
 
 returns : tie.Need-returns
-returns c = let e = c .before .before .before .before .before .before .before .before .before .before .before .before .before .before .before .before .before .before .before .before .before .before .before .before .before .before .before .before .refusal-of .ensures in c .before .before .before .before .before .before .before .before .before .before .before .before .before .before .before .before .before .before .before .before .before .before .before .before .before .before .put-number .ensures ⨾ (c .before .before .before .before .before .before .before .before .before .before .before .before .before .before .before .before .before .before .before .before .before .before .put .ensures ⨾ (rw e at (c .before .before .before .before .before .before .before .before .before .before .before .before .before .before .before .before .before .before .put-address .ensures))) ⨾ (c .before .before .before .before .before .before .before .before .before .before .before .before .before .before .put2 .ensures ⨾ (rw e at (c .before .before .before .before .before .before .before .before .before .before .put-answer .ensures))) ⨾ c .before .before .before .before .before .before .put-asked .ensures ⨾ c .before .before .put3 .ensures
+returns c =
+    let b2 = c .before .before in
+    let b6 = b2 .before .before .before .before in
+    let b10 = b6 .before .before .before .before in
+    let b14 = b10 .before .before .before .before in
+    let b18 = b14 .before .before .before .before in
+    let b22 = b18 .before .before .before .before in
+    let b26 = b22 .before .before .before .before in
+    let b28 = b26 .before .before in
+    let e = b28 .refusal-of .ensures in b26 .put-number .ensures ⨾ (b22 .put .ensures ⨾ (rw e at (b18 .put-address .ensures)))
+    ⨾ (b14 .put2 .ensures ⨾ (rw e at (b10 .put-answer .ensures))) ⨾ b6 .put-asked .ensures ⨾ b2 .put3 .ensures
 
 pub put-row-spec : {M : Type 1} → statement M
 put-row-spec =

@@ -6,7 +6,21 @@ use Rattle.settingnumbers.proofs.at.Statement.{statement}
 use Rattle.settingnumbers.proofs.at.Tie as tie
 
 returns : tie.Need-returns
-returns c = rw (toZ-ofZ {w = w32} {z = c .before .before .before .signed .result} (search needs), c .before .before .before .before .before .before .before .before .before .before .before .at .ensures, c .before .before .before .before .before .before .before .before .before .before .at2 .ensures, c .before .before .before .before .before .before .before .before .before .at3 .ensures, c .before .before .before .before .before .before .before .before .at4 .ensures, c .before .before .before .before .before .before .before .at5 .ensures, c .before .before .before .before .before .before .at6 .ensures, c .before .before .before .before .before .at7 .ensures, c .before .before .at9 .ensures, c .before .at10 .ensures, c .at11 .ensures, c .before .before .before .signed .ensures, c .before .before .before .before .at8 .ensures)
+returns c = rw (
+  toZ-ofZ {w = w32} {z = c .before .before .before .signed .result} (search needs),
+  c .before .before .before .before .before .before .before .before .before .before .before .at .ensures,
+  c .before .before .before .before .before .before .before .before .before .before .at2 .ensures,
+  c .before .before .before .before .before .before .before .before .before .at3 .ensures,
+  c .before .before .before .before .before .before .before .before .at4 .ensures,
+  c .before .before .before .before .before .before .before .at5 .ensures,
+  c .before .before .before .before .before .before .at6 .ensures,
+  c .before .before .before .before .before .at7 .ensures,
+  c .before .before .at9 .ensures,
+  c .before .at10 .ensures,
+  c .at11 .ensures,
+  c .before .before .before .signed .ensures,
+  c .before .before .before .before .at8 .ensures,
+)
 
 pub at-spec : {M : Type 1} → statement M
 at-spec =

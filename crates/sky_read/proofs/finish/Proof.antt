@@ -11,13 +11,20 @@ returns c = c .refuse .ensures ∙ rw (not-true (c .before .before .before .args
 
 returns-2 : tie.Need-returns-2
 returns-2 c =
-    let args = c .before .before .before .before .before .args in
-    c .refuse2 .ensures ∙ rw (not-false (args .head .begun) (c .before .before .before .if1 .left), ne-eqb (args .head .lines + 1) (args .k) (c .before .if2 .taken))
+    let b3 = c .before .before .before in
+    let b5 = b3 .before .before in
+    let args = b5 .args in
+    c .refuse2 .ensures ∙ rw (
+      not-false (args .head .begun) (b3 .if1 .left),
+      ne-eqb (args .head .lines + 1) (args .k) (c .before .if2 .taken),
+    )
 
 returns-3 : tie.Need-returns-3
 returns-3 c =
-    let args = c .before .before .before .before .before .args in
-    rw (not-false (args .head .begun) (c .before .before .before .if1 .left), eq-eqb (args .head .lines + 1) (args .k) (c .before .if2 .left))
+    let b3 = c .before .before .before in
+    let b5 = b3 .before .before in
+    let args = b5 .args in
+    rw (not-false (args .head .begun) (b3 .if1 .left), eq-eqb (args .head .lines + 1) (args .k) (c .before .if2 .left))
 
 pub finish-spec : {M : Type 1} → statement M
 finish-spec =

@@ -7,15 +7,25 @@ use Rattle.sky_read.proofs.follows.Tie as tie
 
 returns : tie.Need-returns
 returns c =
-    let args = c .before .before .before .before .before .args in
-    rw (c .before .lines-for .ensures, c .before .before .before .before .in-place .ensures) (follows-first (args .head) (args .k) (args .t) (args .v) (not-true (args .head .begun) (c .before .before .if1 .taken)))
+    let b2 = c .before .before in
+    let b4 = b2 .before .before in
+    let b5 = b4 .before in
+    let args = b5 .args in
+    rw (c .before .lines-for .ensures, b4 .in-place .ensures)
+    (follows-first (args .head) (args .k) (args .t) (args .v) (not-true (args .head .begun) (b2 .if1 .taken)))
 
 returns-2 : tie.Need-returns-2
 returns-2 c =
-    let args = c .before .before .before .before .before .before .before .before .before .args in
-    let in-place = c .before .before .before .before .before .before .before .before .in-place in
-    let if1 = c .before .before .before .before .before .before .if1 in
-    rw (c .before .before .before .before .before .talker-no .ensures, c .before .before .before .before .talker-no2 .ensures, in-place .ensures) (follows-later (args .head) (args .k) (args .t) (args .v) (not-false (args .head .begun) (if1 .left)))
+    let b4 = c .before .before .before .before in
+    let b5 = b4 .before in
+    let b6 = b5 .before in
+    let b8 = b6 .before .before in
+    let b9 = b8 .before in
+    let args = b9 .args in
+    let in-place = b8 .in-place in
+    let if1 = b6 .if1 in
+    rw (b5 .talker-no .ensures, b4 .talker-no2 .ensures, in-place .ensures)
+    (follows-later (args .head) (args .k) (args .t) (args .v) (not-false (args .head .begun) (if1 .left)))
 
 pub follows-spec : {M : Type 1} → statement M
 follows-spec =

@@ -8,7 +8,14 @@ use Rattle.records.specs.declared.Entry.{Entry}
 use Rattle.sky.specs.declared.Whose.the-variants.{Nobody}
 
 returns : tie.Need-returns
-returns c = ap (λ (e : Entry). record { no = c .before .args .no; line = c .before .args .line; field = c .before .args .field; talker = Nobody; table = record { count = 0; entries = replicate 36 e } }) (c .entry .ensures)
+returns c = ap (λ (e : Entry). record {
+  no = c .before .args .no;
+  line = c .before .args .line;
+  field = c .before .args .field;
+  talker =
+      Nobody;
+  table = record { count = 0; entries = replicate 36 e };
+}) (c .entry .ensures)
 
 pub refuse-spec : {M : Type 1} → statement M
 refuse-spec = tie.close (tie.spec (λ c κs. search needs) returns)

@@ -14,7 +14,13 @@ returns : tie.Need-returns
 unfolding lineAt
 returns c =
     let long : length (c .before .before .before .before .before .before .args .t1 .entries) ≡ 36 = search (needs, length-mapped) in
-    rw (c .before .before .before .before .before .lines-for .ensures, c .before .before .before .before .entries-at .ensures, four-at blankEntry (c .before .before .before .before .before .before .args .t1 .entries) (4 * (c .before .before .before .before .before .before .args .k - 1)) (omega (arith, long, c .before .before .before .before .before .before .pre)))
+    rw (
+      c .before .before .before .before .before .lines-for .ensures,
+      c .before .before .before .before .entries-at .ensures,
+      four-at blankEntry (c .before .before .before .before .before .before .args .t1 .entries)
+          (4 * (c .before .before .before .before .before .before .args .k - 1))
+          (omega (arith, long, c .before .before .before .before .before .before .pre)),
+    )
 
 pub line-of-spec : {M : Type 1} → statement M
 line-of-spec =

@@ -27,29 +27,69 @@ lines-for-requires c κs =
     omega (arith, clear-is (c .before .before .args .r) full (c .before .before .pre .good) .few)
 
 loop-holds : tie.Need-loop-holds Inv-loop μ-loop
-loop-holds c = put-none (c .before .before .before .args .t) (c .before .before .before .args .r) (c .before .before .before .args .out .now) (c .lines-for .result) (c .lines-for .ensures)
+loop-holds c =
+    let b3 = c .before .before .before in
+    put-none (b3 .args .t) (b3 .args .r) (b3 .args .out .now) (c .lines-for .result) (c .lines-for .ensures)
 
 line-of-requires : tie.Need-line-of-requires Inv-loop μ-loop
 line-of-requires c κs =
     let full : length (c .before .before .before .before .before .args .r .entries) ≡ 36 = search (needs, length-mapped) in
-    let few = clear-is (c .before .before .before .before .before .args .r) full (c .before .before .before .before .before .pre .good) .few in
-    (c .before .loop .inv .some, (nine (c .before .before .before .before .before .args .t) (c .before .before .before .before .before .args .r) (c .before .before .before .before .before .args .out .now) (c .before .before .lines-for .result) (c .before .before .lines-for .ensures) full (c .before .before .before .before .before .pre) (c .before .loop .inv) (c .loop-test .taken), few))
+    let few = clear-is (c .before .before .before .before .before .args .r) full
+    (c .before .before .before .before .before .pre .good) .few in (
+      c .before .loop .inv .some,
+      (
+        nine (c .before .before .before .before .before .args .t)
+            (c .before .before .before .before .before .args .r) (c .before .before .before .before .before .args .out .now)
+            (c .before .before .lines-for .result) (c .before .before .lines-for .ensures) full
+            (c .before .before .before .before .before .pre) (c .before .loop .inv) (c .loop-test .taken),
+        few,
+      ),
+    )
 
 add-at : tie.Need-add-at Inv-loop μ-loop
 add-at c =
-    let full : length (c .before .before .before .before .before .before .before .before .before .before .before .args .r .entries) ≡ 36 = search (needs, length-mapped) in
-    let h = next-place (c .before .before .before .before .before .before .before .before .before .before .before .args .t) (c .before .before .before .before .before .before .before .before .before .before .before .args .r) (c .before .before .before .before .before .before .before .before .before .before .before .args .out .now) (c .before .before .before .before .before .before .before .before .lines-for .result) (c .before .before .before .before .before .before .before .before .lines-for .ensures) full (c .before .before .before .before .before .before .before .before .before .before .before .pre) (c .before .before .before .before .before .before .before .loop .inv) (c .before .before .before .before .before .before .loop-test .taken) (c .before .before .before .before .before .line-of .ensures) (c .before .before .before .write .ensures) in
+    let full : length (c .before .before .before .before .before .before .before .before .before .before .before .args .r .entries) ≡ 36 =
+    search (needs, length-mapped) in
+    let h = next-place (c .before .before .before .before .before .before .before .before .before .before .before .args .t)
+    (c .before .before .before .before .before .before .before .before .before .before .before .args .r)
+    (c .before .before .before .before .before .before .before .before .before .before .before .args .out .now)
+    (c .before .before .before .before .before .before .before .before .lines-for .result)
+    (c .before .before .before .before .before .before .before .before .lines-for .ensures) full
+    (c .before .before .before .before .before .before .before .before .before .before .before .pre)
+    (c .before .before .before .before .before .before .before .loop .inv)
+    (c .before .before .before .before .before .before .loop-test .taken)
+    (c .before .before .before .before .before .line-of .ensures) (c .before .before .before .write .ensures) in
     omega (arith, h)
 
 add-k : tie.Need-add-k Inv-loop μ-loop
 add-k c =
-    let full : length (c .before .before .before .before .before .before .before .before .before .before .before .args .r .entries) ≡ 36 = search (needs, length-mapped) in
-    omega (arith, nine (c .before .before .before .before .before .before .before .before .before .before .before .args .t) (c .before .before .before .before .before .before .before .before .before .before .before .args .r) (c .before .before .before .before .before .before .before .before .before .before .before .args .out .now) (c .before .before .before .before .before .before .before .before .lines-for .result) (c .before .before .before .before .before .before .before .before .lines-for .ensures) full (c .before .before .before .before .before .before .before .before .before .before .before .pre) (c .before .before .before .before .before .before .before .loop .inv) (c .before .before .before .before .before .before .loop-test .taken))
+    let full : length (c .before .before .before .before .before .before .before .before .before .before .before .args .r .entries) ≡ 36 =
+    search (needs, length-mapped) in
+    omega (
+      arith,
+      nine (c .before .before .before .before .before .before .before .before .before .before .before .args .t)
+          (c .before .before .before .before .before .before .before .before .before .before .before .args .r)
+          (c .before .before .before .before .before .before .before .before .before .before .before .args .out .now)
+          (c .before .before .before .before .before .before .before .before .lines-for .result)
+          (c .before .before .before .before .before .before .before .before .lines-for .ensures) full
+          (c .before .before .before .before .before .before .before .before .before .before .before .pre)
+          (c .before .before .before .before .before .before .before .loop .inv)
+          (c .before .before .before .before .before .before .loop-test .taken),
+    )
 
 loop-again : tie.Need-loop-again Inv-loop μ-loop
 loop-again c =
-    let full : length (c .before .before .before .before .before .before .before .before .before .before .before .args .r .entries) ≡ 36 = search (needs, length-mapped) in
-    put-next (c .before .before .before .before .before .before .before .before .before .before .before .args .t) (c .before .before .before .before .before .before .before .before .before .before .before .args .r) (c .before .before .before .before .before .before .before .before .before .before .before .args .out .now) (c .before .before .before .before .before .before .before .before .lines-for .result) (c .before .before .before .before .before .before .before .before .lines-for .ensures) full (c .before .before .before .before .before .before .before .before .before .before .before .pre) (c .before .before .before .before .before .before .before .loop .inv) (c .before .before .before .before .before .before .loop-test .taken) (c .before .before .before .before .before .line-of .ensures) (c .before .before .before .write .ensures)
+    let full : length (c .before .before .before .before .before .before .before .before .before .before .before .args .r .entries) ≡ 36 =
+    search (needs, length-mapped) in
+    put-next (c .before .before .before .before .before .before .before .before .before .before .before .args .t)
+    (c .before .before .before .before .before .before .before .before .before .before .before .args .r)
+    (c .before .before .before .before .before .before .before .before .before .before .before .args .out .now)
+    (c .before .before .before .before .before .before .before .before .lines-for .result)
+    (c .before .before .before .before .before .before .before .before .lines-for .ensures) full
+    (c .before .before .before .before .before .before .before .before .before .before .before .pre)
+    (c .before .before .before .before .before .before .before .loop .inv)
+    (c .before .before .before .before .before .before .loop-test .taken)
+    (c .before .before .before .before .before .line-of .ensures) (c .before .before .before .write .ensures)
 
 same-length : tie.Need-same-length Inv-loop μ-loop
 same-length c = c .before .loop .inv .long
@@ -57,7 +97,10 @@ same-length c = c .before .loop .inv .long
 returns : tie.Need-returns Inv-loop μ-loop
 returns c =
     let full : length (c .before .before .before .before .before .args .r .entries) ≡ 36 = search (needs, length-mapped) in
-    put-all (c .before .before .before .before .before .args .t) (c .before .before .before .before .before .args .r) (c .before .before .before .before .before .args .out .now) (c .before .before .lines-for .result) (c .before .before .lines-for .ensures) full (c .before .before .before .before .before .pre) (c .before .loop .inv) (c .loop-test .left)
+    put-all (c .before .before .before .before .before .args .t) (c .before .before .before .before .before .args .r)
+    (c .before .before .before .before .before .args .out .now) (c .before .before .lines-for .result)
+    (c .before .before .lines-for .ensures) full (c .before .before .before .before .before .pre) (c .before .loop .inv)
+    (c .loop-test .left)
 
 pub put-lines-spec : {M : Type 1} → statement M
 put-lines-spec =

@@ -4,7 +4,10 @@ use Rattle.skynumbers.proofs.entry_at.Statement.{statement}
 use Rattle.skynumbers.proofs.entry_at.Tie as tie
 
 returns : tie.Need-returns
-returns c = rw (c .at .ensures, c .before .before .before .maybe-at .ensures, c .before .before .maybe-at2 .ensures, c .before .maybe-at3 .ensures)
+returns c =
+    let b2 = c .before .before in
+    let b3 = b2 .before in
+    rw (c .at .ensures, b3 .maybe-at .ensures, b2 .maybe-at2 .ensures, c .before .maybe-at3 .ensures)
 
 pub entry-at-spec : {M : Type 1} → statement M
 entry-at-spec =

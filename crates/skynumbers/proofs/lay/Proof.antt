@@ -24,12 +24,17 @@ cast-out : tie.Need-cast-out Inv-loop μ-loop
 cast-out c = omega (arith, c .before .before .before .pre)
 
 slice-write-out-2 : tie.Need-slice-write-out-2 Inv-loop μ-loop
-slice-write-out-2 c = omega (arith, length-set (c .before .before .before .args .out .now) 0 (c .talker-number .result), c .before .if1 .left)
+slice-write-out-2 c = omega (
+  arith,
+  length-set (c .before .before .before .args .out .now) 0 (c .talker-number .result),
+  c .before .if1 .left,
+)
 
 loop-holds : tie.Need-loop-holds Inv-loop μ-loop
 loop-holds c =
     let full : length (c .before .before .before .args .t3 .entries) ≡ 36 = search (needs, length-mapped) in
-    let long = headed-long (c .before .before .before .args .t) (c .before .before .before .args .t3) full (c .before .before .before .args .out .now) (c .talker-number .result) in
+    let long = headed-long (c .before .before .before .args .t) (c .before .before .before .args .t3) full
+    (c .before .before .before .args .out .now) (c .talker-number .result) in
     stored-none (c .before .before .before .args .t3 .entries) full _ (omega (arith, long, c .before .if1 .left))
 
 inside : (c : tie.In-loop Inv-loop μ-loop) → 2 + 7 * c .before .loop .i ≤ length (c .before .loop .out)
@@ -41,18 +46,26 @@ inside c =
 
 loop-again : tie.Need-loop-again Inv-loop μ-loop
 loop-again c =
-    let full : length (c .before .before .before .before .before .before .before .before .before .before .args .t3 .entries) ≡ 36 = search (needs, length-mapped) in
-    stored-next (c .before .before .before .before .before .before .before .before .before .before .args .t3 .entries) full _ (c .before .before .before .before .before .before .loop .inv) (c .before .before .before .before .before .loop-test .taken) (c .before .before .lay-entry .ensures)
+    let full : length (c .before .before .before .before .before .before .before .before .before .before .args .t3 .entries) ≡ 36 =
+    search (needs, length-mapped) in
+    stored-next (c .before .before .before .before .before .before .before .before .before .before .args .t3 .entries) full _
+    (c .before .before .before .before .before .before .loop .inv) (c .before .before .before .before .before .loop-test .taken)
+    (c .before .before .lay-entry .ensures)
 
 same-length : tie.Need-same-length Inv-loop μ-loop
 same-length c =
     let full : length (c .before .before .before .before .before .args .t3 .entries) ≡ 36 = search (needs, length-mapped) in
-    stored-long (c .before .before .before .before .before .args .t3 .entries) full _ (c .before .loop .inv) ∙ headed-long (c .before .before .before .before .before .args .t) (c .before .before .before .before .before .args .t3) full (c .before .before .before .before .before .args .out .now) (c .before .before .talker-number .result)
+    stored-long (c .before .before .before .before .before .args .t3 .entries) full _ (c .before .loop .inv)
+    ∙ headed-long (c .before .before .before .before .before .args .t) (c .before .before .before .before .before .args .t3) full
+    (c .before .before .before .before .before .args .out .now) (c .before .before .talker-number .result)
 
 returns-2 : tie.Need-returns-2 Inv-loop μ-loop
 returns-2 c =
     let full : length (c .before .before .before .before .before .args .t3 .entries) ≡ 36 = search (needs, length-mapped) in
-    laid-whole (c .before .before .before .before .before .args .t) (c .before .before .before .before .before .args .t3) full (c .before .before .before .before .before .args .out .now) (c .before .before .before .if1 .left) (c .before .before .talker-number .ensures) (stored-all (c .before .before .before .before .before .args .t3 .entries) full _ (c .before .loop .inv) (c .loop-test .left))
+    laid-whole (c .before .before .before .before .before .args .t) (c .before .before .before .before .before .args .t3) full
+    (c .before .before .before .before .before .args .out .now) (c .before .before .before .if1 .left)
+    (c .before .before .talker-number .ensures)
+    (stored-all (c .before .before .before .before .before .args .t3 .entries) full _ (c .before .loop .inv) (c .loop-test .left))
 
 pub lay-spec : {M : Type 1} → statement M
 lay-spec =

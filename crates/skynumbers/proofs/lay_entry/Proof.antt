@@ -5,7 +5,12 @@ use Rattle.skynumbers.proofs.lay_entry.Statement.{statement}
 use Rattle.skynumbers.proofs.lay_entry.Tie as tie
 
 returns : tie.Need-returns
-returns c = c .before .before .lay .ensures .1 ∙ rw (c .before .before .before .before .before .before .before .mark .ensures, c .before .before .before .before .before .before .mark2 .ensures, c .before .before .before .before .before .mark3 .ensures)
+returns c =
+    let b2 = c .before .before in
+    let b5 = b2 .before .before .before in
+    let b6 = b5 .before in
+    let b7 = b6 .before in
+    b2 .lay .ensures .1 ∙ rw (b7 .mark .ensures, b6 .mark2 .ensures, b5 .mark3 .ensures)
 
 pub lay-entry-spec : {M : Type 1} → statement M
 lay-entry-spec =

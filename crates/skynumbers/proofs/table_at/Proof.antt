@@ -18,11 +18,17 @@ loop-holds : tie.Need-loop-holds Inv-loop μ-loop
 loop-holds c = taken-none (c .before .before .args .numbers .now) _ refl
 
 loop-again : tie.Need-loop-again Inv-loop μ-loop
-loop-again c = taken-next (c .before .before .before .before .before .args .numbers .now) (c .before .before .loop .inv) (c .before .loop-test .taken) (c .entry-at .ensures)
+loop-again c =
+    let b2 = c .before .before in
+    let b5 = b2 .before .before .before in
+    taken-next (b5 .args .numbers .now) (b2 .loop .inv) (c .before .loop-test .taken) (c .entry-at .ensures)
 
 returns : tie.Need-returns Inv-loop μ-loop
 unfolding tableAt
-returns c = rw (c .at .ensures, taken-all (c .before .before .before .before .before .args .numbers .now) (c .before .before .loop .inv) (c .before .loop-test .left))
+returns c =
+    let b2 = c .before .before in
+    let b5 = b2 .before .before .before in
+    rw (c .at .ensures, taken-all (b5 .args .numbers .now) (b2 .loop .inv) (c .before .loop-test .left))
 
 pub table-at-spec : {M : Type 1} → statement M
 table-at-spec =

@@ -16,7 +16,8 @@ sub-result : tie.Need-sub-result
 sub-result c = search needs
 
 cast-result-2 : tie.Need-cast-result-2
-cast-result-2 c = let b = below (c .before .before .args .v) (search needs) (c .size .result) (c .size .ensures) (c .before .if1 .taken) in record { fits = omega (arith, b .1) }
+cast-result-2 c = let b = below (c .before .before .args .v) (search needs) (c .size .result) (c .size .ensures)
+    (c .before .if1 .taken) in record { fits = omega (arith, b .1) }
 
 returns : tie.Need-returns
 returns c = below (c .before .before .args .v) (search needs) (c .size .result) (c .size .ensures) (c .before .if1 .taken) .0

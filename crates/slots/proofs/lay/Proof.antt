@@ -19,7 +19,8 @@ next : (o v : List ℕ) (i : ℕ) → length v ≤ length o → i < length v →
 next o v i a h = ap (λ (k : ℕ). set (paste o 0 v i) k (getD v i 0)) (sym (zero-add i)) ∙ paste-suc o 0 v i 0 (omega arith) h
 
 whole : (o v : List ℕ) → paste o 0 v (length v) ≡ v ++ drop (length v) o
-whole o v = ap (λ (k : ℕ). take (length v) v ++ drop k o) (zero-add (length v)) ∙ ap (λ (x : List ℕ). x ++ drop (length v) o) (take-length v)
+whole o v = ap (λ (k : ℕ). take (length v) v ++ drop k o) (zero-add (length v))
+    ∙ ap (λ (x : List ℕ). x ++ drop (length v) o) (take-length v)
 
 abbrev Inv-loop : tie.InvT-loop
 Inv-loop out₀ values i₀ out i = (i ≤ length values) × (length values ≤ length out₀) × (out ≡ paste out₀ 0 values i)
@@ -44,7 +45,10 @@ mul-out-2 : tie.Need-mul-out-2 Inv-loop μ-loop
 mul-out-2 c = omega arith
 
 slice-write-out : tie.Need-slice-write-out Inv-loop μ-loop
-slice-write-out c = let l = c .before .before .loop in rw (l .inv .2) (less (c .before .before .before .before .args .out .now) (c .before .before .before .before .args .values .now) (l .i) (l .inv .1) (c .before .loop-test .taken))
+slice-write-out c =
+    let b2 = c .before .before in
+    let b4 = b2 .before .before in
+    let l = b2 .loop in rw (l .inv .2) (less (b4 .args .out .now) (b4 .args .values .now) (l .i) (l .inv .1) (c .before .loop-test .taken))
 
 add-i : tie.Need-add-i Inv-loop μ-loop
 add-i c = omega arith
@@ -63,7 +67,8 @@ loop-again c =
 same-length : tie.Need-same-length Inv-loop μ-loop
 same-length c =
     let l = c .before .loop in
-    rw (l .inv .2) (length-paste (c .before .before .before .args .out .now) 0 (c .before .before .before .args .values .now) (l .i) (omega (arith, l .inv .0, l .inv .1)) (l .inv .0))
+    rw (l .inv .2) (length-paste (c .before .before .before .args .out .now) 0 (c .before .before .before .args .values .now) (l .i)
+    (omega (arith, l .inv .0, l .inv .1)) (l .inv .0))
 
 returns-2 : tie.Need-returns-2 Inv-loop μ-loop
 unfolding laid

@@ -23,10 +23,13 @@ unfolding openLine afterLast fromLast
 loop-holds c = (omega arith, refl)
 
 -- a line that was found: it lies in `s`, and past it no line is open
-at-line : (c : tie.Else1 Inv-loop μ-loop) → NextLine (c .before .before .before .before .before .args .s .now) (c .before .before .before .loop .at) (c .before .before .next-line .result)
+at-line : (c : tie.Else1 Inv-loop μ-loop) → NextLine (c .before .before .before .before .before .args .s .now)
+    (c .before .before .before .loop .at) (c .before .before .next-line .result)
 at-line c =
-    let e = c .before .before .next-line .ensures in
-    rw e (slice-line _ _ (c .before .before .before .loop .inv .1) (sym (ap (λ (r : Found). r .line) e) ∙ not-false _ (c .if1 .left)))
+    let b2 = c .before .before in
+    let b3 = b2 .before in
+    let e = b2 .next-line .ensures in
+    rw e (slice-line _ _ (b3 .loop .inv .1) (sym (ap (λ (r : Found). r .line) e) ∙ not-false _ (c .if1 .left)))
 
 starts : (c : tie.Else1 Inv-loop μ-loop) → c .before .before .next-line .result .start ≤ c .before .before .next-line .result .end
 starts c = rw (c .before .before .next-line .ensures) (slice-within _ _ (c .before .before .before .loop .inv .0) .1)

@@ -25,17 +25,28 @@ abbrev below : ℕ → In 1 ps
 below t = and 1 ps (falls 1 ps _<_ μ t) reads.Pre
 
 module _ (t : ℕ) where
-  returns : lts.Need-returns (digit-reads.Asked, digit-reads.Learnt, put-reads.Asked, put-reads.Learnt, below t, reads.Post) (at t) reads.Post
-  returns c = as-text (last-digit (c .before .before .before .before .before .before .before .args .n) (c .before .before .before .before .before .if1 .taken)) (rw (c .before .before .before .digit .ensures) at (c .before .before .put .ensures))
+  returns : lts.Need-returns (digit-reads.Asked, digit-reads.Learnt, put-reads.Asked, put-reads.Learnt, below t, reads.Post)
+      (at t) reads.Post
+  returns c = as-text (last-digit (c .before .before .before .before .before .before .before .args .n)
+      (c .before .before .before .before .before .if1 .taken))
+      (rw (c .before .before .before .digit .ensures) at (c .before .before .put .ensures))
 
-  smaller : lts.Need-put-number-requires (digit-reads.Asked, digit-reads.Learnt, put-reads.Asked, put-reads.Learnt, below t, reads.Post) (at t) reads.Post
+  smaller : lts.Need-put-number-requires (digit-reads.Asked, digit-reads.Learnt, put-reads.Asked, put-reads.Learnt, below t, reads.Post)
+      (at t) reads.Post
   smaller c κs = (omega (arith, c .before .before .before .pre .0, c .before .if1 .left), tt)
 
-  same-length : lts.Need-same-length-2 (digit-reads.Asked, digit-reads.Learnt, put-reads.Asked, put-reads.Learnt, below t, reads.Post) (at t) reads.Post
+  same-length : lts.Need-same-length-2 (digit-reads.Asked, digit-reads.Learnt, put-reads.Asked, put-reads.Learnt, below t, reads.Post)
+      (at t) reads.Post
   same-length c = c .before .before .put2 .kept .0 ∙ c .before .before .before .before .before .before .before .put-number .kept .0
 
-  returns-2 : lts.Need-returns-2 (digit-reads.Asked, digit-reads.Learnt, put-reads.Asked, put-reads.Learnt, below t, reads.Post) (at t) reads.Post
-  returns-2 c = as-text (digits-before (c .before .before .before .before .before .before .before .before .before .before .before .args .n) (c .before .before .before .before .before .before .before .before .before .if1 .left) (c .before .before .before .before .before .before .before .before .before .before .before .fits .n .fits)) (c .before .before .before .before .before .before .before .put-number .ensures ⨾ (rw (c .before .before .before .digit2 .ensures) at (c .before .before .put2 .ensures)))
+  returns-2 : lts.Need-returns-2 (digit-reads.Asked, digit-reads.Learnt, put-reads.Asked, put-reads.Learnt, below t, reads.Post)
+      (at t) reads.Post
+  returns-2 c = as-text (digits-before
+      (c .before .before .before .before .before .before .before .before .before .before .before .args .n)
+      (c .before .before .before .before .before .before .before .before .before .if1 .left)
+      (c .before .before .before .before .before .before .before .before .before .before .before .fits .n .fits))
+      (c .before .before .before .before .before .before .before .put-number .ensures
+      ⨾ (rw (c .before .before .before .digit2 .ensures) at (c .before .before .put2 .ensures)))
 
 pub +put-number-spec : {M : Type 1} → statement M
 +put-number-spec =

@@ -16,15 +16,33 @@ returns-2 c = c .no-date2 .ensures ∙ rw (c .before .before .before .before .da
 
 returns-3 : tie.Need-returns-3
 unfolding dateAt
-returns-3 c = c .no-date3 .ensures ∙ rw (c .before .before .before .before .before .before .before .day .given .1, c .before .before .before .before .month .given .1, c .before .enum-told3 .given .1)
+returns-3 c =
+    let b4 = c .before .before .before .before in
+    let b7 = b4 .before .before .before in
+    c .no-date3 .ensures ∙ rw (b7 .day .given .1, b4 .month .given .1, c .before .enum-told3 .given .1)
 
 returns-4 : tie.Need-returns-4
 unfolding dateAt
-returns-4 c = c .no-date4 .ensures ∙ rw (c .before .before .before .before .before .before .before .before .before .before .day .given .1, c .before .before .before .before .before .before .before .month .given .1, c .before .before .before .before .year .given .1, sym (c .before .before .is-date .ensures) ∙ not-true _ (c .before .if1 .taken))
+returns-4 c =
+    let b2 = c .before .before in
+    let b4 = b2 .before .before in
+    let b7 = b4 .before .before .before in
+    let b10 = b7 .before .before .before in
+    c .no-date4 .ensures ∙ rw (
+      b10 .day .given .1,
+      b7 .month .given .1,
+      b4 .year .given .1,
+      sym (b2 .is-date .ensures)
+          ∙ not-true _ (c .before .if1 .taken),
+    )
 
 returns-5 : tie.Need-returns-5
 unfolding dateAt
-returns-5 c = rw (c .before .before .before .before .before .before .before .before .before .day .given .1, c .before .before .before .before .before .before .month .given .1, c .before .before .before .year .given .1, sym (c .before .is-date .ensures) ∙ not-false _ (c .if1 .left))
+returns-5 c =
+    let b3 = c .before .before .before in
+    let b6 = b3 .before .before .before in
+    let b9 = b6 .before .before .before in
+    rw (b9 .day .given .1, b6 .month .given .1, b3 .year .given .1, sym (c .before .is-date .ensures) ∙ not-false _ (c .if1 .left))
 
 pub date-at-spec : {M : Type 1} → statement M
 date-at-spec =

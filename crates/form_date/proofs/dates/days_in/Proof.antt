@@ -16,10 +16,17 @@ unfolding daysIn
 returns-2 c = rw (le-leb _ _ (c .before .if1 .left), lt-leb _ _ (c .if2 .taken))
 
 returns-3 : tie.Need-returns-3
-returns-3 c = sym (days-leap _ _ (c .before .before .before .if1 .left) (c .before .before .if2 .left) (rw (c .before .is-leap .ensures) at (c .if3 .taken)))
+returns-3 c =
+    let b2 = c .before .before in
+    let b3 = b2 .before in
+    sym (days-leap _ _ (b3 .if1 .left) (b2 .if2 .left) (rw (c .before .is-leap .ensures) at (c .if3 .taken)))
 
 returns-4 : tie.Need-returns-4
-returns-4 c = days-common _ _ (c .before .before .before .if1 .left) (c .before .before .if2 .left) (rw (c .before .is-leap .ensures) at (c .if3 .left))
+returns-4 c =
+    let b2 = c .before .before in
+    let b3 = b2 .before in
+    days-common _ _ (b3 .if1 .left) (b2 .if2 .left) (rw (c .before .is-leap .ensures) at (c .if3 .left))
 
 pub days-in-spec : {M : Type 1} → statement M
-days-in-spec = tie.close (tie.spec returns returns-2 (λ c κs. search needs) returns-3 (λ c. search needs) (λ c. search needs) (λ c. search needs) returns-4)
+days-in-spec = tie.close (tie.spec returns returns-2 (λ c κs. search needs) returns-3 (λ c. search needs) (λ c. search needs)
+    (λ c. search needs) returns-4)

@@ -16,11 +16,13 @@ unfolding fullYear
 returns-2 c = rw (c .before .before .n .given .1, lt-ltb _ _ (c .if1 .taken))
 
 add-t5 : tie.Need-add-t5
-add-t5 c = let h : c .before .before .n .given .0 .0 < 100 = subst (λ (n : Num). Under 100 (num n)) (c .before .before .n .given .1) (c .before .before .before .before .pre) in omega arith
+add-t5 c = let h : c .before .before .n .given .0 .0 < 100 = subst (λ (n : Num). Under 100 (num n)) (c .before .before .n .given .1)
+    (c .before .before .before .before .pre) in omega arith
 
 returns-3 : tie.Need-returns-3
 unfolding fullYear
 returns-3 c = rw (c .before .before .n .given .1, le-ltb _ _ (c .if1 .left))
 
 pub full-year-spec : {M : Type 1} → statement M
-full-year-spec = tie.close (tie.spec (λ c. search needs) (λ c. search needs) (λ c. search needs) (λ c. search needs) returns-2 add-t5 returns-3)
+full-year-spec = tie.close (tie.spec (λ c. search needs) (λ c. search needs) (λ c. search needs)
+    (λ c. search needs) returns-2 add-t5 returns-3)

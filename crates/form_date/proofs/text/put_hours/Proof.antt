@@ -7,7 +7,13 @@ use Rattle.form_date.proofs.text.put_hours.Statement.{statement}
 use Rattle.form_date.proofs.text.put_hours.Tie as tie
 
 returns : tie.Need-returns
-returns c = (rw (toZ-ofZ {w = w32} {z = c .before .before .before .before .before .before .before .before .before .before .args .z} (search needs)) at (c .before .before .before .before .before .before .before .put-sign .ensures)) ⨾ (rw (c .before .before .before .hours .ensures, toZ-ofZ {w = w32} {z = c .before .before .before .before .before .before .before .before .before .before .args .z} (search needs)) at (c .before .before .put-two .ensures))
+returns c = (rw (toZ-ofZ {w = w32} {z = c .before .before .before .before .before .before .before .before .before .before .args .z}
+    (search needs)) at (c .before .before .before .before .before .before .before .put-sign .ensures))
+    ⨾ (rw (
+      c .before .before .before .hours .ensures,
+      toZ-ofZ {w = w32} {z = c .before .before .before .before .before .before .before .before .before .before .args .z} (search needs),
+    ) at
+    (c .before .before .put-two .ensures))
 
 pub put-hours-spec : {M : Type 1} → statement M
 put-hours-spec = tie.close (tie.spec (λ c κs. search needs) (λ c κs. search needs) (λ c κs. search needs) (λ c. search needs) returns)

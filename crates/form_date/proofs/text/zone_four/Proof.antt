@@ -8,10 +8,17 @@ use Rattle.form_date.proofs.text.zone_four.Statement.{statement}
 use Rattle.form_date.proofs.text.zone_four.Tie as tie
 
 returns : tie.Need-returns
-returns c = present (c .before .before .before .before .before .before .before .before .before .before .args .there) (c .before .before .before .before .if1 .taken) (c .before .before .before .before .before .before .before .put .ensures) (rw (toZ-ofZ {w = w32} {z = c .before .before .before .before .before .before .before .before .before .before .args .z} (search needs)) at (c .before .before .put-zone .ensures))
+returns c = present (c .before .before .before .before .before .before .before .before .before .before .args .there)
+    (c .before .before .before .before .if1 .taken) (c .before .before .before .before .before .before .before .put .ensures)
+    (rw (toZ-ofZ {w = w32} {z = c .before .before .before .before .before .before .before .before .before .before .args .z}
+    (search needs)) at (c .before .before .put-zone .ensures))
 
 returns-2 : tie.Need-returns-2
-returns-2 c = absent (fourText (c .before .before .before .before .before .before .args .z)) (c .before .before .before .before .before .before .args .there) (c .if1 .left) (c .before .before .before .put .ensures)
+returns-2 c =
+    let b3 = c .before .before .before in
+    let b6 = b3 .before .before .before in
+    absent (fourText (b6 .args .z)) (b6 .args .there) (c .if1 .left) (b3 .put .ensures)
 
 pub zone-four-spec : {M : Type 1} → statement M
-zone-four-spec = tie.close (tie.spec (λ c κs. search needs) (λ c κs. search needs) (λ c. search needs) returns (λ c. search needs) returns-2)
+zone-four-spec = tie.close (tie.spec (λ c κs. search needs) (λ c κs. search needs) (λ c. search needs) returns
+    (λ c. search needs) returns-2)

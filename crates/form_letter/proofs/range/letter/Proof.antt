@@ -24,7 +24,13 @@ wide-requires : tie.Need-wide-requires Inv-loop μ-loop
 wide-requires c κs = tt
 
 returns : tie.Need-returns Inv-loop μ-loop
-returns c = letter-good (c .before .before .before .before .before .before .args .set .now) (c .before .before .before .before .before .before .args .v) (sym (c .before .before .before .before .loop .inv .1) ∙ found (c .before .before .before .before .before .before .args .set .now) (c .before .before .before .before .loop .i) (c .before .before .before .before .before .before .args .v) (c .before .before .before .loop-test .taken) (sym (c .before .wide .ensures) ∙ c .if1 .taken))
+returns c =
+    let b3 = c .before .before .before in
+    let b4 = b3 .before in
+    let b6 = b4 .before .before in
+    letter-good (b6 .args .set .now) (b6 .args .v)
+    (sym (b4 .loop .inv .1) ∙ found (b6 .args .set .now) (b4 .loop .i) (b6 .args .v) (b3 .loop-test .taken)
+    (sym (c .before .wide .ensures) ∙ c .if1 .taken))
 
 add-i : tie.Need-add-i Inv-loop μ-loop
 add-i c = omega arith
@@ -33,10 +39,19 @@ loop-less : tie.Need-loop-less Inv-loop μ-loop
 loop-less c = omega arith
 
 loop-again : tie.Need-loop-again Inv-loop μ-loop
-loop-again c = (omega arith, passed (c .before .before .before .before .before .before .args .set .now) (c .before .before .before .before .loop .i) (c .before .before .before .before .before .before .args .v) (c .before .before .before .loop-test .taken) (λ e. c .if1 .left (c .before .wide .ensures ∙ e)) ∙ c .before .before .before .before .loop .inv .1)
+loop-again c = (
+  omega arith,
+  passed (c .before .before .before .before .before .before .args .set .now)
+      (c .before .before .before .before .loop .i) (c .before .before .before .before .before .before .args .v)
+      (c .before .before .before .loop-test .taken) (λ e. c .if1 .left (c .before .wide .ensures ∙ e))
+      ∙ c .before .before .before .before .loop .inv .1,
+)
 
 returns-2 : tie.Need-returns-2 Inv-loop μ-loop
-returns-2 c = letter-bad (c .before .before .before .args .set .now) (c .before .before .before .args .v) (sym (c .before .loop .inv .1) ∙ ended (c .before .before .before .args .set .now) (c .before .loop .i) (c .before .before .before .args .v) (c .loop-test .left))
+returns-2 c =
+    let b3 = c .before .before .before in
+    letter-bad (b3 .args .set .now) (b3 .args .v)
+    (sym (c .before .loop .inv .1) ∙ ended (b3 .args .set .now) (c .before .loop .i) (b3 .args .v) (c .loop-test .left))
 
 pub letter-spec : {M : Type 1} → statement M
 letter-spec =

@@ -12,7 +12,10 @@ returns-2 : tie.Need-returns-2
 returns-2 c = rw (letter-one _ _ (c .before .before .before .if1 .left), not-found _ _ (rw (c .before .find .ensures) at (c .if2 .taken)))
 
 returns-3 : tie.Need-returns-3
-returns-3 c = rw (letter-one _ _ (c .before .before .before .before .if1 .left), found _ _ (rw (c .before .before .find .ensures) at (c .before .if2 .left)), c .wide .ensures)
+returns-3 c =
+    let b2 = c .before .before in
+    let b4 = b2 .before .before in
+    rw (letter-one _ _ (b4 .if1 .left), found _ _ (rw (b2 .find .ensures) at (c .before .if2 .left)), c .wide .ensures)
 
 pub one-of-spec : {M : Type 1} → statement M
 one-of-spec =

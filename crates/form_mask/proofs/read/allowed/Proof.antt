@@ -16,7 +16,11 @@ returns-2 c = rw (sym (c .before .before .same-bytes .ensures) ∙ not-false _ (
 
 returns-3 : tie.Need-returns-3
 unfolding satellitesOf
-returns-3 c = rw (c .ones .ensures, sym (c .before .before .before .same-bytes .ensures) ∙ not-false _ (c .before .before .if1 .left), le-leb _ _ (c .before .if2 .left))
+returns-3 c =
+    let b2 = c .before .before in
+    let b3 = b2 .before in
+    rw (c .ones .ensures, sym (b3 .same-bytes .ensures) ∙ not-false _ (b2 .if1 .left), le-leb _ _ (c .before .if2 .left))
 
 pub allowed-spec : {M : Type 1} → statement M
-allowed-spec = tie.close (tie.spec (λ c. search needs) (λ c κs. search needs) (λ c κs. search needs) returns returns-2 (λ c κs. search needs) returns-3)
+allowed-spec = tie.close (tie.spec (λ c. search needs) (λ c κs. search needs) (λ c κs. search needs) returns returns-2
+    (λ c κs. search needs) returns-3)

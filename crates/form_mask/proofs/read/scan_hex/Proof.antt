@@ -22,30 +22,47 @@ abbrev μ-loop : tie.MeasureT-loop
 μ-loop s acc₀ i₀ acc i = length s - i
 
 -- The byte that was let through is a digit.
-digit : (c : tie.Else1 Inv-loop μ-loop) → hexDigit (getD (now (c .before .before .before .before .before .before .args .s)) (c .before .before .before .before .loop .i) 0) ≡ true
+digit : (c : tie.Else1 Inv-loop μ-loop)
+    → hexDigit (getD (now (c .before .before .before .before .before .before .args .s))
+    (c .before .before .before .before .loop .i) 0) ≡ true
 digit c = sym (c .before .is-hex .ensures) ∙ not-false _ (c .if1 .left)
 
 loop-holds : tie.Need-loop-holds Inv-loop μ-loop
 loop-holds c = (omega arith, omega arith, omega arith, refl)
 
 returns : tie.Need-returns Inv-loop μ-loop
-returns c = sym (hex-off _ _ _ (c .before .before .before .loop-test .taken) (sym (c .before .is-hex .ensures) ∙ not-true _ (c .if1 .taken))) ∙ c .before .before .before .before .loop .inv .3
+returns c =
+    let b3 = c .before .before .before in
+    let b4 = b3 .before in
+    sym (hex-off _ _ _ (b3 .loop-test .taken) (sym (c .before .is-hex .ensures) ∙ not-true _ (c .if1 .taken))) ∙ b4 .loop .inv .3
 
 mul-acc : tie.Need-mul-acc Inv-loop μ-loop
-mul-acc c = omega (arith, hex-room {i = c .before .before .before .before .loop .i} (omega arith) (c .before .before .before .before .loop .inv .2))
+mul-acc c = omega (
+  arith,
+  hex-room {i = c .before .before .before .before .loop .i} (omega arith)
+      (c .before .before .before .before .loop .inv .2),
+)
 
 hex-value-requires : tie.Need-hex-value-requires Inv-loop μ-loop
 hex-value-requires c κs = digit c
 
 add-acc : tie.Need-add-acc Inv-loop μ-loop
-add-acc c = omega (arith, hex-room {i = c .before .before .before .before .before .loop .i} (omega arith) (c .before .before .before .before .before .loop .inv .2), hex-value-lt (getD (now (c .before .before .before .before .before .before .before .args .s)) (c .before .before .before .before .before .loop .i) 0) (digit (c .before)))
+add-acc c = omega (
+  arith,
+  hex-room {i = c .before .before .before .before .before .loop .i} (omega arith)
+      (c .before .before .before .before .before .loop .inv .2),
+  hex-value-lt (getD (now (c .before .before .before .before .before .before .before .args .s))
+      (c .before .before .before .before .before .loop .i) 0) (digit (c .before)),
+)
 
 loop-again : tie.Need-loop-again Inv-loop μ-loop
 loop-again c = (
   omega arith,
   omega arith,
-  step-lt 16 (c .before .before .before .before .before .loop .i) (c .before .before .before .before .before .loop .inv .2) (rw (c .hex-value .ensures) (hex-value-lt _ (digit (c .before)))),
-  rw (c .hex-value .ensures) (sym (hex-on _ _ _ (c .before .before .before .before .loop-test .taken) (digit (c .before))) ∙ c .before .before .before .before .before .loop .inv .3),
+  step-lt 16 (c .before .before .before .before .before .loop .i) (c .before .before .before .before .before .loop .inv .2)
+      (rw (c .hex-value .ensures) (hex-value-lt _ (digit (c .before)))),
+  rw (c .hex-value .ensures) (sym (hex-on _ _ _ (c .before .before .before .before .loop-test .taken) (digit (c .before)))
+      ∙ c .before .before .before .before .before .loop .inv .3),
 )
 
 returns-2 : tie.Need-returns-2 Inv-loop μ-loop

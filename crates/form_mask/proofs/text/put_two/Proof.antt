@@ -7,7 +7,12 @@ use Rattle.form_mask.proofs.text.put_two.Tie as tie
 
 returns : tie.Need-returns
 unfolding printHex
-returns c = (rw (c .before .before .before .before .before .before .before .before .digit .ensures) at (c .before .before .before .before .before .before .before .put .ensures)) ⨾ (rw (c .before .before .before .digit2 .ensures) at (c .before .before .put2 .ensures))
+returns c =
+    let b2 = c .before .before in
+    let b3 = b2 .before in
+    let b7 = b3 .before .before .before .before in
+    let b8 = b7 .before in
+    (rw (b8 .digit .ensures) at (b7 .put .ensures)) ⨾ (rw (b3 .digit2 .ensures) at (b2 .put2 .ensures))
 
 pub put-two-spec : {M : Type 1} → statement M
 put-two-spec =

@@ -14,7 +14,12 @@ unfolding thousandths
 returns c = rw (sym (c .before .before .digits .ensures) ∙ ap num (c .enum-told .given .1))
 
 mul-t6 : tie.Need-mul-t6
-mul-t6 c = rw (c .scale .ensures) (omega (arith, fraction-lt (now (c .before .before .before .before .before .before .args .t)) (c .before .before .m .given .0 .0) (sym (c .before .before .before .before .digits .ensures) ∙ ap num (c .before .before .m .given .1))))
+mul-t6 c = rw (c .scale .ensures)
+    (omega (
+      arith,
+      fraction-lt (now (c .before .before .before .before .before .before .args .t)) (c .before .before .m .given .0 .0)
+          (sym (c .before .before .before .before .digits .ensures) ∙ ap num (c .before .before .m .given .1)),
+    ))
 
 returns-2 : tie.Need-returns-2
 unfolding thousandths

@@ -20,7 +20,11 @@ returns-2 c = rw (eq-eqb _ _ (c .before .before .if1 .left), ne-eqb _ _ (c .if2 
 
 joined-requires : tie.Need-joined-requires
 joined-requires c κs =
-    (under _ _ _ 1000 _ (pow-le-pow-right {n = 10} (lit< tt) {i = c .before .before .before .before .before .before .before .before .before .before .args .w} {j = 3} (c .before .before .before .before .before .before .before .before .before .before .pre)) (c .before .before .before .before .digits .ensures), under _ 4 4 10000 _ (lit≤ tt) (c .digits3 .ensures))
+    let b4 = c .before .before .before .before in
+    let b10 = b4 .before .before .before .before .before .before in (
+      under _ _ _ 1000 _ (pow-le-pow-right {n = 10} (lit< tt) {i = b10 .args .w} {j = 3} (b10 .pre)) (b4 .digits .ensures),
+      under _ 4 4 10000 _ (lit≤ tt) (c .digits3 .ensures),
+    )
 
 returns-3 : tie.Need-returns-3
 unfolding angleOf

@@ -14,18 +14,25 @@ returns c = c .refused .ensures ∙ rw (ne-eqb _ _ (c .before .if1 .taken))
 
 returns-2 : tie.Need-returns-2
 unfolding bothOf
-returns-2 c = c .refused2 .ensures ∙ rw (eq-eqb _ _ (c .before .before .before .before .before .before .before .if1 .left), c .before .if2 .taken)
+returns-2 c =
+    let b7 = c .before .before .before .before .before .before .before in
+    c .refused2 .ensures ∙ rw (eq-eqb _ _ (b7 .if1 .left), c .before .if2 .taken)
 
 returns-3 : tie.Need-returns-3
 unfolding bothOf
-returns-3 c = c .refused3 .ensures ∙ rw (eq-eqb _ _ (c .before .before .before .before .before .before .before .before .before .if1 .left), c .before .before .before .if2 .left, ne-eqb _ _ (c .before .if3 .taken))
+returns-3 c =
+    let b3 = c .before .before .before in
+    let b9 = b3 .before .before .before .before .before .before in
+    c .refused3 .ensures ∙ rw (eq-eqb _ _ (b9 .if1 .left), b3 .if2 .left, ne-eqb _ _ (c .before .if3 .taken))
 
 returns-4 : tie.Need-returns-4
 unfolding bothOf
 returns-4 c =
     rw (
-      toZ-ofZ {w = w32} {z = c .before .before .before .before .before .before .before .before .before .before .before .before .args .a .value} (search needs),
-      toZ-ofZ {w = w32} {z = c .before .before .before .before .before .before .before .before .before .before .before .before .args .o .value} (search needs),
+      toZ-ofZ {w = w32} {z = c .before .before .before .before .before .before .before .before .before .before .before .before .args .a
+          .value} (search needs),
+      toZ-ofZ {w = w32} {z = c .before .before .before .before .before .before .before .before .before .before .before .before .args .o
+          .value} (search needs),
       eq-eqb _ _ (c .before .before .before .before .before .before .before .before .before .before .if1 .left),
       c .before .before .before .before .if2 .left,
       eq-eqb _ _ (c .before .before .if3 .left),

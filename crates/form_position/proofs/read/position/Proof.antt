@@ -15,7 +15,12 @@ sided-requires-2 c κs = angle-under _ _ _ _ (lit< tt) (c .angle2 .ensures)
 
 returns : tie.Need-returns
 unfolding positionForm latitudeOf longitudeOf
-returns c = c .both .ensures ∙ rw (c .before .sided2 .ensures, c .before .before .angle2 .ensures, c .before .before .before .sided .ensures, c .before .before .before .before .angle .ensures)
+returns c =
+    let b2 = c .before .before in
+    let b3 = b2 .before in
+    let b4 = b3 .before in
+    c .both .ensures ∙ rw (c .before .sided2 .ensures, b2 .angle2 .ensures, b3 .sided .ensures, b4 .angle .ensures)
 
 pub position-spec : {M : Type 1} → statement M
-position-spec = tie.close (tie.spec (λ c κs. search needs) sided-requires (λ c κs. search needs) sided-requires-2 (λ c κs. search needs) returns)
+position-spec = tie.close (tie.spec (λ c κs. search needs) sided-requires (λ c κs. search needs) sided-requires-2
+    (λ c κs. search needs) returns)

@@ -9,7 +9,21 @@ use Rattle.form_position.proofs.text.put_arc.Statement.{statement}
 use Rattle.form_position.proofs.text.put_arc.Tie as tie
 
 returns : tie.Need-returns
-returns c = (rw (c .before .before .before .before .before .before .before .before .before .before .before .before .arc .ensures, toZ-ofZ {w = w32} {z = c .before .before .before .before .before .before .before .before .before .before .before .before .before .before .args .z} (search needs), arc-minutes (natAbs (c .before .before .before .before .before .before .before .before .before .before .before .before .before .before .args .z))) at (c .before .before .before .before .before .before .before .before .before .before .put-two .ensures)) ⨾ (c .before .before .before .before .before .before .put .ensures ⨾ (rw (c .before .before .before .before .before .before .before .before .before .before .before .before .arc .ensures, toZ-ofZ {w = w32} {z = c .before .before .before .before .before .before .before .before .before .before .before .before .before .before .args .z} (search needs), arc-parts (natAbs (c .before .before .before .before .before .before .before .before .before .before .before .before .before .before .args .z))) at (c .before .before .put-four .ensures)))
+returns c = (rw (
+  c .before .before .before .before .before .before .before .before .before .before .before .before .arc .ensures,
+  toZ-ofZ {w = w32} {z = c .before .before .before .before .before .before .before .before .before .before .before .before .before
+      .before .args .z} (search needs),
+  arc-minutes (natAbs (c .before .before .before .before .before .before .before .before .before .before .before .before .before
+      .before .args .z)),
+) at (c .before .before .before .before .before .before .before .before .before .before .put-two .ensures))
+    ⨾ (c .before .before .before .before .before .before .put .ensures
+    ⨾ (rw (
+      c .before .before .before .before .before .before .before .before .before .before .before .before .arc .ensures,
+      toZ-ofZ {w = w32} {z = c .before .before .before .before .before .before .before .before .before .before .before .before .before
+          .before .args .z} (search needs),
+      arc-parts (natAbs (c .before .before .before .before .before .before .before .before .before .before .before .before .before .before
+          .args .z)),
+    ) at (c .before .before .put-four .ensures)))
 
 pub put-arc-spec : {M : Type 1} → statement M
 put-arc-spec =

@@ -7,7 +7,13 @@ use Rattle.form_position.proofs.text.put_longitude.Statement.{statement
 use Rattle.form_position.proofs.text.put_longitude.Tie as tie
 
 returns : tie.Need-returns
-returns c = (rw (c .before .before .before .before .before .before .before .degrees .ensures, toZ-ofZ {w = w32} {z = c .before .before .before .before .before .before .before .before .before .before .args .z} (search needs)) at (c .before .before .before .before .before .before .put-three .ensures)) ⨾ (rw (toZ-ofZ {w = w32} {z = c .before .before .before .before .before .before .before .before .before .before .args .z} (search needs)) at (c .before .before .put-arc .ensures))
+returns c = (rw (
+  c .before .before .before .before .before .before .before .degrees .ensures,
+  toZ-ofZ {w = w32} {z = c .before .before .before .before .before .before .before .before .before .before .args .z} (search needs),
+) at
+    (c .before .before .before .before .before .before .put-three .ensures))
+    ⨾ (rw (toZ-ofZ {w = w32} {z = c .before .before .before .before .before .before .before .before .before .before .args .z}
+    (search needs)) at (c .before .before .put-arc .ensures))
 
 pub put-longitude-spec : {M : Type 1} → statement M
 put-longitude-spec = tie.close (tie.spec (λ c κs. search needs) (λ c κs. search needs) (λ c κs. search needs) (λ c. search needs) returns)

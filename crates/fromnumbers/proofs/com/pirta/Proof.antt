@@ -6,7 +6,12 @@ use Rattle.fromnumbers.proofs.com.pirta.Statement.{statement}
 use Rattle.fromnumbers.proofs.com.pirta.Tie as tie
 
 returns : tie.Need-returns
-returns c = rw (c .before .before .at .ensures, toZ-ofZ {w = w32} {z = c .signed .result} (search needs), c .signed .ensures, c .before .at2 .ensures)
+returns c = rw (
+  c .before .before .at .ensures,
+  toZ-ofZ {w = w32} {z = c .signed .result} (search needs),
+  c .signed .ensures,
+  c .before .at2 .ensures,
+)
 
 pub pirta-spec : {M : Type 1} → statement M
 pirta-spec =

@@ -4,7 +4,12 @@ use Rattle.fromnumbers.proofs.sat.gsa.Statement.{statement}
 use Rattle.fromnumbers.proofs.sat.gsa.Tie as tie
 
 returns : tie.Need-returns
-returns c = rw (c .before .before .before .before .before .at .ensures, c .before .before .before .before .at2 .ensures, c .before .before .before .twelve .ensures, c .before .before .number .ensures, c .before .number2 .ensures, c .number3 .ensures)
+returns c =
+    let b2 = c .before .before in
+    let b3 = b2 .before in
+    let b4 = b3 .before in
+    let b5 = b4 .before in
+    rw (b5 .at .ensures, b4 .at2 .ensures, b3 .twelve .ensures, b2 .number .ensures, c .before .number2 .ensures, c .number3 .ensures)
 
 pub gsa-spec : {M : Type 1} → statement M
 gsa-spec =

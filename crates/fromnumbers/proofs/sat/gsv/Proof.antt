@@ -4,7 +4,11 @@ use Rattle.fromnumbers.proofs.sat.gsv.Statement.{statement}
 use Rattle.fromnumbers.proofs.sat.gsv.Tie as tie
 
 returns : tie.Need-returns
-returns c = rw (c .before .before .before .before .at .ensures, c .before .before .before .at2 .ensures, c .before .before .at3 .ensures, c .before .at4 .ensures, c .four .ensures)
+returns c =
+    let b2 = c .before .before in
+    let b3 = b2 .before in
+    let b4 = b3 .before in
+    rw (b4 .at .ensures, b3 .at2 .ensures, b2 .at3 .ensures, c .before .at4 .ensures, c .four .ensures)
 
 pub gsv-spec : {M : Type 1} → statement M
 gsv-spec =

@@ -6,7 +6,16 @@ use Rattle.fromnumbers.proofs.values.place.Statement.{statement}
 use Rattle.fromnumbers.proofs.values.place.Tie as tie
 
 returns : tie.Need-returns
-returns c = rw (c .before .before .before .before .there .ensures, toZ-ofZ {w = w32} {z = c .before .before .signed .result} (search needs), c .before .before .signed .ensures, c .before .before .before .at .ensures, toZ-ofZ {w = w32} {z = c .signed2 .result} (search needs), c .signed2 .ensures, c .before .at2 .ensures)
+returns c = rw (
+  c .before .before .before .before .there .ensures,
+  toZ-ofZ {w = w32} {z = c .before .before .signed .result}
+      (search needs),
+  c .before .before .signed .ensures,
+  c .before .before .before .at .ensures,
+  toZ-ofZ {w = w32} {z = c .signed2 .result} (search needs),
+  c .signed2 .ensures,
+  c .before .at2 .ensures,
+)
 
 pub place-spec : {M : Type 1} → statement M
 place-spec =

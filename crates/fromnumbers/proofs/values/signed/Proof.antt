@@ -6,7 +6,12 @@ use Rattle.fromnumbers.proofs.values.signed.Statement.{statement}
 use Rattle.fromnumbers.proofs.values.signed.Tie as tie
 
 returns : tie.Need-returns
-returns c = rw (c .before .before .there .ensures, toZ-ofZ {w = w32} {z = c .signed .result} (search needs), c .signed .ensures, c .before .at .ensures)
+returns c = rw (
+  c .before .before .there .ensures,
+  toZ-ofZ {w = w32} {z = c .signed .result} (search needs),
+  c .signed .ensures,
+  c .before .at .ensures,
+)
 
 pub signed-spec : {M : Type 1} → statement M
 signed-spec =

@@ -8,13 +8,19 @@ use Rattle.host.proofs.commands.castanwel_start.Tie as tie
 
 returns : tie.Need-returns
 returns c =
-    let lay = c .before .before .before .lay .ensures in
-    (room (length (c .before .before .before .before .before .before .before .args .settings .now)) 11 (sym (lay .0) ∙ c .if1 .taken), lay .1 ∙ rw (c .before .before .before .before .at-start .ensures))
+    let b3 = c .before .before .before in
+    let b4 = b3 .before in
+    let b7 = b4 .before .before .before in
+    let lay = b3 .lay .ensures in
+    (room (length (b7 .args .settings .now)) 11 (sym (lay .0) ∙ c .if1 .taken), lay .1 ∙ rw (b4 .at-start .ensures))
 
 returns-2 : tie.Need-returns-2
 returns-2 c =
-    let lay = c .before .before .before .lay .ensures in
-    (no-room (length (c .before .before .before .before .before .before .before .args .settings .now)) 11 (sym (lay .0) ∙ c .if1 .left), lay .1 ∙ rw (c .before .before .before .before .at-start .ensures))
+    let b3 = c .before .before .before in
+    let b4 = b3 .before in
+    let b7 = b4 .before .before .before in
+    let lay = b3 .lay .ensures in
+    (no-room (length (b7 .args .settings .now)) 11 (sym (lay .0) ∙ c .if1 .left), lay .1 ∙ rw (b4 .at-start .ensures))
 
 pub castanwel-start-spec : {M : Type 1} → statement M
 castanwel-start-spec =

@@ -13,7 +13,10 @@ returns c = rw (lt-ltb (length (c .before .before .args .settings .now)) 11 (c .
 
 returns-2 : tie.Need-returns-2
 unfolding countsAt
-returns-2 c = c .counts .ensures ∙ rw (c .before .at .ensures, le-ltb (length (c .before .before .before .before .args .settings .now)) 11 (c .before .before .if1 .left))
+returns-2 c =
+    let b2 = c .before .before in
+    let b4 = b2 .before .before in
+    c .counts .ensures ∙ rw (c .before .at .ensures, le-ltb (length (b4 .args .settings .now)) 11 (b2 .if1 .left))
 
 pub counts-spec : {M : Type 1} → statement M
 counts-spec = tie.close (tie.spec returns (λ c κs. search needs) (λ c κs. search needs) returns-2)

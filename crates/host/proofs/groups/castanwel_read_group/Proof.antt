@@ -10,22 +10,36 @@ use Rattle.host.proofs.groups.castanwel_read_group.Statement.{statement
 use Rattle.host.proofs.groups.castanwel_read_group.Tie as tie
 
 returns : tie.Need-returns
-returns c = nobody (groupOf (c .before .before .before .before .before .before .args .s .now)) (c .before .before .before .read .result) (c .before .before .before .before .before .before .args .numbers .now) (c .before .before .before .read .ensures) (c .enum-told .given .1)
+returns c =
+    let b3 = c .before .before .before in
+    let b6 = b3 .before .before .before in
+    nobody (groupOf (b6 .args .s .now)) (b3 .read .result) (b6 .args .numbers .now) (b3 .read .ensures) (c .enum-told .given .1)
 
 lay-requires : tie.Need-lay-requires
 lay-requires c κs =
     let full : length (c .before .before .before .before .before .read .result .table .entries) ≡ 36 = search (needs, length-mapped) in
-    few (groupOf (c .before .before .before .before .before .before .before .before .args .s .now)) (c .before .before .before .before .before .read .result) (c .before .before .before .before .before .read .ensures) full
+    few (groupOf (c .before .before .before .before .before .before .before .before .args .s .now))
+    (c .before .before .before .before .before .read .result) (c .before .before .before .before .before .read .ensures) full
 
 returns-2 : tie.Need-returns-2
 returns-2 c =
-    let lay = c .before .before .before .lay .ensures in
-    somebody (groupOf (c .before .before .before .before .before .before .before .before .before .before .before .before .args .s .now)) (c .before .before .before .before .before .before .before .before .before .read .result) _ (c .before .before .before .before .before .before .before .before .before .before .before .before .args .numbers .now) _ (c .before .before .before .before .before .before .before .before .before .read .ensures) (c .before .before .before .before .before .before .whose .given .1) (lay .1) (room (length (c .before .before .before .before .before .before .before .before .before .before .before .before .args .numbers .now)) 254 (sym (lay .0) ∙ c .if1 .taken))
+    let b3 = c .before .before .before in
+    let b6 = b3 .before .before .before in
+    let b9 = b6 .before .before .before in
+    let b12 = b9 .before .before .before in
+    let lay = b3 .lay .ensures in
+    somebody (groupOf (b12 .args .s .now)) (b9 .read .result) _ (b12 .args .numbers .now) _ (b9 .read .ensures) (b6 .whose .given .1)
+    (lay .1) (room (length (b12 .args .numbers .now)) 254 (sym (lay .0) ∙ c .if1 .taken))
 
 returns-3 : tie.Need-returns-3
 returns-3 c =
-    let lay = c .before .before .before .lay .ensures in
-    somebody (groupOf (c .before .before .before .before .before .before .before .before .before .before .before .before .args .s .now)) (c .before .before .before .before .before .before .before .before .before .read .result) _ (c .before .before .before .before .before .before .before .before .before .before .before .before .args .numbers .now) _ (c .before .before .before .before .before .before .before .before .before .read .ensures) (c .before .before .before .before .before .before .whose .given .1) (lay .1) (no-room (length (c .before .before .before .before .before .before .before .before .before .before .before .before .args .numbers .now)) 254 (sym (lay .0) ∙ c .if1 .left))
+    let b3 = c .before .before .before in
+    let b6 = b3 .before .before .before in
+    let b9 = b6 .before .before .before in
+    let b12 = b9 .before .before .before in
+    let lay = b3 .lay .ensures in
+    somebody (groupOf (b12 .args .s .now)) (b9 .read .result) _ (b12 .args .numbers .now) _ (b9 .read .ensures) (b6 .whose .given .1)
+    (lay .1) (no-room (length (b12 .args .numbers .now)) 254 (sym (lay .0) ∙ c .if1 .left))
 
 pub castanwel-read-group-spec : {M : Type 1} → statement M
 castanwel-read-group-spec =

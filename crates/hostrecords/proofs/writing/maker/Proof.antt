@@ -4,28 +4,56 @@ use Rattle.hostrecords.proofs.writing.maker.Statement.{statement}
 use Rattle.hostrecords.proofs.writing.maker.Tie as tie
 
 returns : tie.Need-returns
-returns c = rw (c .before .before .before .before .before .enum-told .given .1, ← c .before .before .before .pirpr .ensures) (c .before .before .write .ensures)
+returns c =
+    let b2 = c .before .before in
+    let b3 = b2 .before in
+    let b5 = b3 .before .before in
+    rw (b5 .enum-told .given .1, ← b3 .pirpr .ensures) (b2 .write .ensures)
 
 returns-2 : tie.Need-returns-2
-returns-2 c = rw (c .before .before .before .before .before .enum-told2 .given .1, ← c .before .before .before .pirtr .ensures) (c .before .before .write2 .ensures)
+returns-2 c =
+    let b2 = c .before .before in
+    let b3 = b2 .before in
+    let b5 = b3 .before .before in
+    rw (b5 .enum-told2 .given .1, ← b3 .pirtr .ensures) (b2 .write2 .ensures)
 
 returns-3 : tie.Need-returns-3
-returns-3 c = rw (c .before .before .before .before .before .enum-told3 .given .1, ← c .before .before .before .pirsr .ensures) (c .before .before .write3 .ensures)
+returns-3 c =
+    let b2 = c .before .before in
+    let b3 = b2 .before in
+    let b5 = b3 .before .before in
+    rw (b5 .enum-told3 .given .1, ← b3 .pirsr .ensures) (b2 .write3 .ensures)
 
 returns-4 : tie.Need-returns-4
 returns-4 c = rw (c .before .before .before .before .enum-told4 .given .1) (c .before .before .write4 .ensures)
 
 returns-5 : tie.Need-returns-5
-returns-5 c = rw (c .before .before .before .before .before .enum-told5 .given .1, ← c .before .before .before .pirpa .ensures) (c .before .before .write5 .ensures)
+returns-5 c =
+    let b2 = c .before .before in
+    let b3 = b2 .before in
+    let b5 = b3 .before .before in
+    rw (b5 .enum-told5 .given .1, ← b3 .pirpa .ensures) (b2 .write5 .ensures)
 
 returns-6 : tie.Need-returns-6
-returns-6 c = rw (c .before .before .before .before .before .enum-told6 .given .1, ← c .before .before .before .pirta .ensures) (c .before .before .write6 .ensures)
+returns-6 c =
+    let b2 = c .before .before in
+    let b3 = b2 .before in
+    let b5 = b3 .before .before in
+    rw (b5 .enum-told6 .given .1, ← b3 .pirta .ensures) (b2 .write6 .ensures)
 
 returns-7 : tie.Need-returns-7
-returns-7 c = rw (c .before .before .before .before .before .enum-told7 .given .1, ← c .before .before .before .pirsa .ensures) (c .before .before .write7 .ensures)
+returns-7 c =
+    let b2 = c .before .before in
+    let b3 = b2 .before in
+    let b5 = b3 .before .before in
+    rw (b5 .enum-told7 .given .1, ← b3 .pirsa .ensures) (b2 .write7 .ensures)
 
 returns-8 : tie.Need-returns-8
-returns-8 c = rw (c .before .before .before .before .before .enum-told8 .given .1, ← c .before .before .before .pirea .ensures) (c .before .before .write8 .ensures)
+returns-8 c =
+    let b2 = c .before .before in
+    let b3 = b2 .before in
+    let b5 = b3 .before .before in
+    rw (b5 .enum-told8 .given .1, ← b3 .pirea .ensures) (b2 .write8 .ensures)
 
 pub maker-spec : {M : Type 1} → statement M
 maker-spec =

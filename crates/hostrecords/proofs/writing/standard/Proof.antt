@@ -4,25 +4,53 @@ use Rattle.hostrecords.proofs.writing.standard.Statement.{statement}
 use Rattle.hostrecords.proofs.writing.standard.Tie as tie
 
 returns : tie.Need-returns
-returns c = rw (c .before .before .before .before .before .enum-told .given .1, ← c .before .before .before .gga .ensures) (c .before .before .write .ensures)
+returns c =
+    let b2 = c .before .before in
+    let b3 = b2 .before in
+    let b5 = b3 .before .before in
+    rw (b5 .enum-told .given .1, ← b3 .gga .ensures) (b2 .write .ensures)
 
 returns-2 : tie.Need-returns-2
-returns-2 c = rw (c .before .before .before .before .before .enum-told2 .given .1, ← c .before .before .before .gll .ensures) (c .before .before .write2 .ensures)
+returns-2 c =
+    let b2 = c .before .before in
+    let b3 = b2 .before in
+    let b5 = b3 .before .before in
+    rw (b5 .enum-told2 .given .1, ← b3 .gll .ensures) (b2 .write2 .ensures)
 
 returns-3 : tie.Need-returns-3
-returns-3 c = rw (c .before .before .before .before .before .enum-told3 .given .1, ← c .before .before .before .gsa .ensures) (c .before .before .write3 .ensures)
+returns-3 c =
+    let b2 = c .before .before in
+    let b3 = b2 .before in
+    let b5 = b3 .before .before in
+    rw (b5 .enum-told3 .given .1, ← b3 .gsa .ensures) (b2 .write3 .ensures)
 
 returns-4 : tie.Need-returns-4
-returns-4 c = rw (c .before .before .before .before .before .enum-told4 .given .1, ← c .before .before .before .gsv .ensures) (c .before .before .write4 .ensures)
+returns-4 c =
+    let b2 = c .before .before in
+    let b3 = b2 .before in
+    let b5 = b3 .before .before in
+    rw (b5 .enum-told4 .given .1, ← b3 .gsv .ensures) (b2 .write4 .ensures)
 
 returns-5 : tie.Need-returns-5
-returns-5 c = rw (c .before .before .before .before .before .enum-told5 .given .1, ← c .before .before .before .rmc .ensures) (c .before .before .write5 .ensures)
+returns-5 c =
+    let b2 = c .before .before in
+    let b3 = b2 .before in
+    let b5 = b3 .before .before in
+    rw (b5 .enum-told5 .given .1, ← b3 .rmc .ensures) (b2 .write5 .ensures)
 
 returns-6 : tie.Need-returns-6
-returns-6 c = rw (c .before .before .before .before .before .enum-told6 .given .1, ← c .before .before .before .vtg .ensures) (c .before .before .write6 .ensures)
+returns-6 c =
+    let b2 = c .before .before in
+    let b3 = b2 .before in
+    let b5 = b3 .before .before in
+    rw (b5 .enum-told6 .given .1, ← b3 .vtg .ensures) (b2 .write6 .ensures)
 
 returns-7 : tie.Need-returns-7
-returns-7 c = rw (c .before .before .before .before .before .enum-told7 .given .1, ← c .before .before .before .zda .ensures) (c .before .before .write7 .ensures)
+returns-7 c =
+    let b2 = c .before .before in
+    let b3 = b2 .before in
+    let b5 = b3 .before .before in
+    rw (b5 .enum-told7 .given .1, ← b3 .zda .ensures) (b2 .write7 .ensures)
 
 pub standard-spec : {M : Type 1} → statement M
 standard-spec =

@@ -11,11 +11,17 @@ use Rattle.receiver.proofs.DoesLaws.{does-reply}
 
 returns : tie.Need-returns
 returns c =
-    let args = c .before .before .before .before .before .before .before .before .args in
-    let write = c .before .before .before .write in
-    let same = c .before .before .before .before .before .datum-told .ensures ∙ ap datumTold (c .before .before .before .before .before .before .after-datum .ensures) in
-    let told = subst (λ (x : DatumTold). Writes (faultAt (pirtaWrong x)) (pirtaBody x) (args .out .now) (write .result) (write .last .0)) same (write .ensures) in
-    does-reply (args .self) (afterDatum (args .self) (args .r)) _ _ _ _ _ (c .hand-over .result) told (c .hand-over .ensures ∙ ap (handedOver (write .result) (args .self)) (c .before .before .before .before .before .before .after-datum .ensures))
+    let b3 = c .before .before .before in
+    let b5 = b3 .before .before in
+    let b6 = b5 .before in
+    let b8 = b6 .before .before in
+    let args = b8 .args in
+    let write = b3 .write in
+    let same = b5 .datum-told .ensures ∙ ap datumTold (b6 .after-datum .ensures) in
+    let told = subst (λ (x : DatumTold). Writes (faultAt (pirtaWrong x)) (pirtaBody x) (args .out .now) (write .result)
+    (write .last .0)) same (write .ensures) in
+    does-reply (args .self) (afterDatum (args .self) (args .r)) _ _ _ _ _ (c .hand-over .result) told
+    (c .hand-over .ensures ∙ ap (handedOver (write .result) (args .self)) (b6 .after-datum .ensures))
 
 pub place-spec : {M : Type 1} → statement M
 place-spec =

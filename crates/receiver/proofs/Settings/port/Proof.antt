@@ -13,11 +13,19 @@ use Rattle.receiver.proofs.DoesLaws.{does-reply}
 
 returns : tie.Need-returns
 returns c =
-    let args = c .before .before .before .before .before .before .before .before .before .args in
-    let write = c .before .before .before .write in
-    let same = c .before .before .before .before .before .port-told .ensures ∙ ap (λ (n : ℕ). portTold (c .before .before .before .before .before .before .before .after-port .result) n) (c .before .before .before .before .before .before .named-port .ensures) ∙ ap (λ (x : Settings). portTold x (namedPort (args .arrival) (args .r))) (c .before .before .before .before .before .before .before .after-port .ensures) in
-    let told = subst (λ (x : PortTold). Writes (faultAt (pirpaWrong x)) (pirpaBody x) (args .out .now) (write .result) (write .last .0)) same (write .ensures) in
-    does-reply (args .self) (afterPort (args .self) (args .arrival) (args .r)) _ _ _ _ _ (c .hand-over .result) told (c .hand-over .ensures ∙ ap (handedOver (write .result) (args .self)) (c .before .before .before .before .before .before .before .after-port .ensures))
+    let b3 = c .before .before .before in
+    let b5 = b3 .before .before in
+    let b6 = b5 .before in
+    let b7 = b6 .before in
+    let b9 = b7 .before .before in
+    let args = b9 .args in
+    let write = b3 .write in
+    let same = b5 .port-told .ensures ∙ ap (λ (n : ℕ). portTold (b7 .after-port .result) n) (b6 .named-port .ensures)
+    ∙ ap (λ (x : Settings). portTold x (namedPort (args .arrival) (args .r))) (b7 .after-port .ensures) in
+    let told = subst (λ (x : PortTold). Writes (faultAt (pirpaWrong x)) (pirpaBody x) (args .out .now) (write .result)
+    (write .last .0)) same (write .ensures) in
+    does-reply (args .self) (afterPort (args .self) (args .arrival) (args .r)) _ _ _ _ _ (c .hand-over .result) told
+    (c .hand-over .ensures ∙ ap (handedOver (write .result) (args .self)) (b7 .after-port .ensures))
 
 pub port-spec : {M : Type 1} → statement M
 port-spec =

@@ -11,8 +11,13 @@ use Rattle.receiver.proofs.DoesLaws.{does-reply}
 
 returns : tie.Need-returns
 returns c =
-    let told = subst (λ (x : Settings). Writes (faultAt (pirsaWrong (masksTold x))) (pirsaBody (masksTold x)) (c .before .before .before .before .before .before .before .args .out .now) (c .before .before .before .write .result) (c .before .before .before .write .last .0)) (c .before .before .before .before .before .after-masks .ensures) (c .before .before .before .write .ensures) in
-    does-reply (c .before .before .before .before .before .before .before .args .self) (afterMasks (c .before .before .before .before .before .before .before .args .self) (c .before .before .before .before .before .before .before .args .r)) _ _ _ _ _ (c .hand-over .result) told (c .hand-over .ensures ∙ ap (handedOver (c .before .before .before .write .result) (c .before .before .before .before .before .before .before .args .self)) (c .before .before .before .before .before .after-masks .ensures))
+    let b3 = c .before .before .before in
+    let b5 = b3 .before .before in
+    let b7 = b5 .before .before in
+    let told = subst (λ (x : Settings). Writes (faultAt (pirsaWrong (masksTold x))) (pirsaBody (masksTold x)) (b7 .args .out .now)
+    (b3 .write .result) (b3 .write .last .0)) (b5 .after-masks .ensures) (b3 .write .ensures) in
+    does-reply (b7 .args .self) (afterMasks (b7 .args .self) (b7 .args .r)) _ _ _ _ _ (c .hand-over .result) told
+    (c .hand-over .ensures ∙ ap (handedOver (b3 .write .result) (b7 .args .self)) (b5 .after-masks .ensures))
 
 pub satellites-spec : {M : Type 1} → statement M
 satellites-spec =

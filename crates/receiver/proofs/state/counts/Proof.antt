@@ -7,12 +7,17 @@ use borrow.Author.Tests.{not-true, not-false}
 use Rattle.receiver.proofs.SettingsLaws.{counts-wrong, counts-right}
 
 returns : tie.Need-returns
-returns c = counts-wrong (c .before .before .args .s) (sym (c .before .are-good .ensures) ∙ not-true (c .before .are-good .result) (c .if1 .taken))
+returns c =
+    let b2 = c .before .before in
+    counts-wrong (b2 .args .s) (sym (c .before .are-good .ensures) ∙ not-true (c .before .are-good .result) (c .if1 .taken))
 
 returns-2 : tie.Need-returns-2
 returns-2 c =
-    let are-good = c .before .before .before .are-good in
-    counts-right (c .before .before .before .before .args .s) (sym (are-good .ensures) ∙ not-false (are-good .result) (c .before .before .if1 .left))
+    let b2 = c .before .before in
+    let b3 = b2 .before in
+    let b4 = b3 .before in
+    let are-good = b3 .are-good in
+    counts-right (b4 .args .s) (sym (are-good .ensures) ∙ not-false (are-good .result) (b2 .if1 .left))
 
 pub counts-spec : {M : Type 1} → statement M
 counts-spec = tie.close (tie.spec (λ c κs. search needs) returns returns-2)

@@ -14,7 +14,9 @@ slice-write-seen : tie.Need-slice-write-seen
 slice-write-seen c = c .before .before .pre (not-false (c .before .before .args .used) (c .before .if1 .left))
 
 returns-2 : tie.Need-returns-2
-returns-2 c = (rw (not-false (c .before .before .args .used) (c .before .if1 .left)), rw (not-false (c .before .before .args .used) (c .before .if1 .left)))
+returns-2 c =
+    let b2 = c .before .before in
+    (rw (not-false (b2 .args .used) (c .before .if1 .left)), rw (not-false (b2 .args .used) (c .before .if1 .left)))
 
 pub mark-spec : {M : Type 1} → statement M
 mark-spec = tie.close (tie.spec returns slice-read-had slice-write-seen (λ c. search needs) returns-2)

@@ -22,18 +22,23 @@ returns : tie.Need-returns Inv-loop μ-loop
 returns c =
     let long : length (c .before .before .before .before .before .args .t1 .entries) ≡ 36 = search (needs, length-mapped) in
     sym (c .before .before .before .before .loop .inv
-    ∙ blank-stop (c .before .before .before .before .before .args .t1 .entries) (c .before .before .before .before .loop .i) (omega (arith, long, c .before .before .before .loop-test .taken)) blankEntry (sym (c .before .is-blank .ensures) ∙ not-true _ (c .if1 .taken)))
+    ∙ blank-stop (c .before .before .before .before .before .args .t1 .entries) (c .before .before .before .before .loop .i)
+    (omega (arith, long, c .before .before .before .loop-test .taken)) blankEntry
+    (sym (c .before .is-blank .ensures) ∙ not-true _ (c .if1 .taken)))
 
 loop-again : tie.Need-loop-again Inv-loop μ-loop
 loop-again c =
     let long : length (c .before .before .before .before .before .args .t1 .entries) ≡ 36 = search (needs, length-mapped) in
     c .before .before .before .before .loop .inv
-    ∙ blank-next (c .before .before .before .before .before .args .t1 .entries) (c .before .before .before .before .loop .i) (omega (arith, long, c .before .before .before .loop-test .taken)) blankEntry (sym (c .before .is-blank .ensures) ∙ not-false _ (c .if1 .left))
+    ∙ blank-next (c .before .before .before .before .before .args .t1 .entries) (c .before .before .before .before .loop .i)
+    (omega (arith, long, c .before .before .before .loop-test .taken)) blankEntry
+    (sym (c .before .is-blank .ensures) ∙ not-false _ (c .if1 .left))
 
 returns-2 : tie.Need-returns-2 Inv-loop μ-loop
 returns-2 c =
     let long : length (c .before .before .args .t1 .entries) ≡ 36 = search (needs, length-mapped) in
-    sym (c .before .loop .inv ∙ blank-end (c .before .before .args .t1 .entries) (c .before .loop .i) (omega (arith, long, c .loop-test .left)))
+    sym (c .before .loop .inv ∙ blank-end (c .before .before .args .t1 .entries) (c .before .loop .i)
+    (omega (arith, long, c .loop-test .left)))
 
 pub rest-blank-spec : {M : Type 1} → statement M
 rest-blank-spec =

@@ -10,10 +10,24 @@ add-result : tie.Need-add-result
 add-result c = omega (arith, c .before .before .value-size .ensures, value-few (c .before .before .before .args .e .elevation .there) 2)
 
 add-result-2 : tie.Need-add-result-2
-add-result-2 c = omega (arith, c .before .before .value-size .ensures, value-few (c .before .before .before .args .e .elevation .there) 2, c .before .value-size2 .ensures, value-few (c .before .before .before .args .e .azimuth .there) 3)
+add-result-2 c = omega (
+  arith,
+  c .before .before .value-size .ensures,
+  value-few (c .before .before .before .args .e .elevation .there) 2,
+  c .before .value-size2 .ensures,
+  value-few (c .before .before .before .args .e .azimuth .there) 3,
+)
 
 add-result-3 : tie.Need-add-result-3
-add-result-3 c = omega (arith, c .before .before .value-size .ensures, value-few (c .before .before .before .args .e .elevation .there) 2, c .before .value-size2 .ensures, value-few (c .before .before .before .args .e .azimuth .there) 3, c .value-size3 .ensures, value-few (c .before .before .before .args .e .signal .there) 2)
+add-result-3 c = omega (
+  arith,
+  c .before .before .value-size .ensures,
+  value-few (c .before .before .before .args .e .elevation .there) 2,
+  c .before .value-size2 .ensures,
+  value-few (c .before .before .before .args .e .azimuth .there) 3,
+  c .value-size3 .ensures,
+  value-few (c .before .before .before .args .e .signal .there) 2,
+)
 
 returns : tie.Need-returns
 unfolding entrySize

@@ -25,20 +25,37 @@ mul-size c = omega (arith, c .lines-for .ensures, lines-are (c .before .args .t1
 
 loop-holds : tie.Need-loop-holds Inv-loop μ-loop
 unfolding tableSize
-loop-holds c = (omega arith, (omega (arith, c .lines-for .ensures, lines-are (c .before .args .t1 .count) .nine (c .before .pre)), omega (arith, c .lines-for .ensures)))
+loop-holds c = (
+  omega arith,
+  (
+    omega (arith, c .lines-for .ensures, lines-are (c .before .args .t1 .count) .nine (c .before .pre)),
+    omega (arith, c .lines-for .ensures),
+  ),
+)
 
 add-size : tie.Need-add-size Inv-loop μ-loop
-add-size c = omega (arith, c .entry-size .ensures, entry-few (getD (c .before .before .before .before .before .args .t1 .entries) (c .before .before .before .loop .i) blankEntry))
+add-size c = omega (
+  arith,
+  c .entry-size .ensures,
+  entry-few (getD (c .before .before .before .before .before .args .t1 .entries) (c .before .before .before .loop .i) blankEntry),
+)
 
 loop-again : tie.Need-loop-again Inv-loop μ-loop
 loop-again c =
     let long : length (c .before .before .before .before .before .args .t1 .entries) ≡ 36 = search (needs, length-mapped) in
-    let few = entry-few (getD (c .before .before .before .before .before .args .t1 .entries) (c .before .before .before .loop .i) blankEntry) in
-    let next = sizes-next (c .before .before .before .before .before .args .t1 .entries) (c .before .before .before .before .before .args .t1 .count) (c .before .before .before .loop .i) (c .before .before .loop-test .taken) (omega (arith, long, c .before .before .before .before .before .pre)) blankEntry in
+    let few = entry-few (getD (c .before .before .before .before .before .args .t1 .entries)
+    (c .before .before .before .loop .i) blankEntry) in
+    let next = sizes-next (c .before .before .before .before .before .args .t1 .entries)
+    (c .before .before .before .before .before .args .t1 .count) (c .before .before .before .loop .i)
+    (c .before .before .loop-test .taken) (omega (arith, long, c .before .before .before .before .before .pre)) blankEntry in
     (omega arith, (omega (arith, few, c .entry-size .ensures), omega (arith, next, c .entry-size .ensures)))
 
 returns : tie.Need-returns Inv-loop μ-loop
-returns c = omega (arith, sizes-end (c .before .before .before .args .t1 .entries) (c .before .before .before .args .t1 .count) (c .before .loop .i) (c .loop-test .left))
+returns c = omega (
+  arith,
+  sizes-end (c .before .before .before .args .t1 .entries) (c .before .before .before .args .t1 .count)
+      (c .before .loop .i) (c .loop-test .left),
+)
 
 pub room-spec : {M : Type 1} → statement M
 room-spec =

@@ -5,7 +5,12 @@ use Rattle.text.proofs.value.put_date.Statement.{statement}
 use Rattle.text.proofs.value.put_date.Tie as tie
 
 returns : tie.Need-returns
-returns c = c .before .before .before .before .before .before .before .before .before .before .before .before .before .before .put-mark .ensures ⨾ (c .before .before .before .before .before .before .before .before .before .before .put-value .ensures ⨾ (c .before .before .before .before .before .before .put-value2 .ensures ⨾ c .before .before .put-value3 .ensures))
+returns c =
+    let b2 = c .before .before in
+    let b6 = b2 .before .before .before .before in
+    let b10 = b6 .before .before .before .before in
+    let b14 = b10 .before .before .before .before in
+    b14 .put-mark .ensures ⨾ (b10 .put-value .ensures ⨾ (b6 .put-value2 .ensures ⨾ b2 .put-value3 .ensures))
 
 pub put-date-spec : {M : Type 1} → statement M
 put-date-spec =

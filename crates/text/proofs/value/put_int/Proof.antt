@@ -7,7 +7,14 @@ use Rattle.text.proofs.value.put_int.Statement.{statement}
 use Rattle.text.proofs.value.put_int.Tie as tie
 
 returns : tie.Need-returns
-returns c = c .before .before .before .before .before .before .before .before .before .before .before .put .ensures ⨾ ((rw (toZ-ofZ {w = w32} {z = c .before .before .before .before .before .before .before .before .before .before .before .before .before .before .args .v} (search needs)) at (c .before .before .before .before .before .before .before .put-sign .ensures)) ⨾ (rw (c .before .before .before .size .ensures, toZ-ofZ {w = w32} {z = c .before .before .before .before .before .before .before .before .before .before .before .before .before .before .args .v} (search needs)) at (c .before .before .put-number .ensures)))
+returns c = c .before .before .before .before .before .before .before .before .before .before .before .put .ensures
+    ⨾ ((rw (toZ-ofZ {w = w32} {z = c .before .before .before .before .before .before .before .before .before .before .before .before
+    .before .before .args .v} (search needs)) at (c .before .before .before .before .before .before .before .put-sign .ensures))
+    ⨾ (rw (
+      c .before .before .before .size .ensures,
+      toZ-ofZ {w = w32} {z = c .before .before .before .before .before .before .before .before .before .before .before .before .before
+          .before .args .v} (search needs),
+    ) at (c .before .before .put-number .ensures)))
 
 pub put-int-spec : {M : Type 1} → statement M
 put-int-spec =

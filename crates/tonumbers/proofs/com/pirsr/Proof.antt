@@ -5,7 +5,11 @@ use Rattle.tonumbers.proofs.com.pirsr.Statement.{statement}
 use Rattle.tonumbers.proofs.com.pirsr.Tie as tie
 
 returns : tie.Need-returns
-returns c = (c .before .before .lay .ensures .0, c .before .before .lay .ensures .1 ∙ rw (c .before .before .before .before .before .before .mark .ensures, c .before .before .before .before .before .mark2 .ensures))
+returns c =
+    let b2 = c .before .before in
+    let b5 = b2 .before .before .before in
+    let b6 = b5 .before in
+    (b2 .lay .ensures .0, b2 .lay .ensures .1 ∙ rw (b6 .mark .ensures, b5 .mark2 .ensures))
 
 pub pirsr-spec : {M : Type 1} → statement M
 pirsr-spec =

@@ -20,7 +20,44 @@ geoid-fits : (c : tie.Start) → SFits w32 (c .args .r .geoid .value)
 geoid-fits c = search needs
 
 returns : tie.Need-returns
-returns c = (c .before .before .lay .ensures .0, c .before .before .lay .ensures .1 ∙ rw (c .before .before .before .before .before .before .before .before .before .before .before .before .before .before .before .before .before .before .before .before .before .talker-number .ensures, c .before .before .before .before .before .before .before .before .before .before .before .before .before .before .before .before .before .before .before .before .mark .ensures, c .before .before .before .before .before .before .before .before .before .before .before .before .before .before .before .before .before .before .before .mark2 .ensures, c .before .before .before .before .before .before .before .before .before .before .before .before .before .before .before .before .before .bits .ensures, toZ-ofZ {w = w32} {z = c .before .before .before .before .before .before .before .before .before .before .before .before .before .before .before .before .before .before .before .before .before .before .before .args .r .place .lat} (lat-fits (c .before .before .before .before .before .before .before .before .before .before .before .before .before .before .before .before .before .before .before .before .before .before .before)), c .before .before .before .before .before .before .before .before .before .before .before .before .before .before .before .bits2 .ensures, toZ-ofZ {w = w32} {z = c .before .before .before .before .before .before .before .before .before .before .before .before .before .before .before .before .before .before .before .before .before .before .before .args .r .place .lon} (lon-fits (c .before .before .before .before .before .before .before .before .before .before .before .before .before .before .before .before .before .before .before .before .before .before .before)), c .before .before .before .before .before .before .before .before .before .before .before .before .before .before .mark3 .ensures, c .before .before .before .before .before .before .before .before .before .before .before .before .before .mark4 .ensures, c .before .before .before .before .before .before .before .before .before .before .before .before .mark5 .ensures, c .before .before .before .before .before .before .before .before .before .before .bits3 .ensures, toZ-ofZ {w = w32} {z = c .before .before .before .before .before .before .before .before .before .before .before .before .before .before .before .before .before .before .before .before .before .before .before .args .r .altitude .value} (altitude-fits (c .before .before .before .before .before .before .before .before .before .before .before .before .before .before .before .before .before .before .before .before .before .before .before)), c .before .before .before .before .before .before .before .before .before .mark6 .ensures, c .before .before .before .before .before .before .before .bits4 .ensures, toZ-ofZ {w = w32} {z = c .before .before .before .before .before .before .before .before .before .before .before .before .before .before .before .before .before .before .before .before .before .before .before .args .r .geoid .value} (geoid-fits (c .before .before .before .before .before .before .before .before .before .before .before .before .before .before .before .before .before .before .before .before .before .before .before)), c .before .before .before .before .before .before .mark7 .ensures, c .before .before .before .before .before .mark8 .ensures))
+returns c =
+    let b2 = c .before .before in
+    let b5 = b2 .before .before .before in
+    let b6 = b5 .before in
+    let b7 = b6 .before in
+    let b9 = b7 .before .before in
+    let b10 = b9 .before in
+    let b12 = b10 .before .before in
+    let b13 = b12 .before in
+    let b14 = b13 .before in
+    let b15 = b14 .before in
+    let b17 = b15 .before .before in
+    let b19 = b17 .before .before in
+    let b20 = b19 .before in
+    let b21 = b20 .before in
+    let b23 = b21 .before .before in (
+      b2 .lay .ensures .0,
+      b2 .lay .ensures .1
+          ∙ rw (
+            b21 .talker-number .ensures,
+            b20 .mark .ensures,
+            b19 .mark2 .ensures,
+            b17 .bits .ensures,
+            toZ-ofZ {w = w32} {z = b23 .args .r .place .lat} (lat-fits (b23)),
+            b15 .bits2 .ensures,
+            toZ-ofZ {w = w32} {z = b23 .args .r .place .lon} (lon-fits (b23)),
+            b14 .mark3 .ensures,
+            b13 .mark4 .ensures,
+            b12 .mark5 .ensures,
+            b10 .bits3 .ensures,
+            toZ-ofZ {w = w32} {z = b23 .args .r .altitude .value} (altitude-fits (b23)),
+            b9 .mark6 .ensures,
+            b7 .bits4 .ensures,
+            toZ-ofZ {w = w32} {z = b23 .args .r .geoid .value} (geoid-fits (b23)),
+            b6 .mark7 .ensures,
+            b5 .mark8 .ensures,
+          ),
+    )
 
 pub gga-spec : {M : Type 1} → statement M
 gga-spec =

@@ -7,7 +7,19 @@ use Rattle.tonumbers.proofs.nav.zda.Statement.{statement}
 use Rattle.tonumbers.proofs.nav.zda.Tie as tie
 
 returns : tie.Need-returns
-returns c = (c .before .before .lay .ensures .0, c .before .before .lay .ensures .1 ∙ rw (c .before .before .before .before .before .before .before .before .before .before .talker-number .ensures, c .before .before .before .before .before .before .before .before .before .mark .ensures, c .before .before .before .before .before .before .before .before .mark2 .ensures, c .before .before .before .before .before .before .before .mark3 .ensures, c .before .before .before .before .before .bits .ensures, toZ-ofZ {w = w32} {z = c .before .before .before .before .before .before .before .before .before .before .before .before .args .r .zone .minutes} (search needs)))
+returns c = (
+  c .before .before .lay .ensures .0,
+  c .before .before .lay .ensures .1
+      ∙ rw (
+        c .before .before .before .before .before .before .before .before .before .before .talker-number .ensures,
+        c .before .before .before .before .before .before .before .before .before .mark .ensures,
+        c .before .before .before .before .before .before .before .before .mark2 .ensures,
+        c .before .before .before .before .before .before .before .mark3 .ensures,
+        c .before .before .before .before .before .bits .ensures,
+        toZ-ofZ {w = w32} {z = c .before .before .before .before .before .before .before .before .before .before .before .before .args .r
+            .zone .minutes} (search needs),
+      ),
+)
 
 pub zda-spec : {M : Type 1} → statement M
 zda-spec =

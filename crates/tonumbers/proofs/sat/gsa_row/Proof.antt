@@ -5,7 +5,10 @@ use Rattle.tonumbers.proofs.sat.gsa_row.Statement.{statement}
 use Rattle.tonumbers.proofs.sat.gsa_row.Tie as tie
 
 returns : tie.Need-returns
-returns c = gsa-row-is (c .before .before .before .args .t) (c .before .before .before .args .r) _ _ _ (c .before .before .talker-number .ensures) (c .before .first-six .ensures) (c .rest .ensures)
+returns c =
+    let b2 = c .before .before in
+    let b3 = b2 .before in
+    gsa-row-is (b3 .args .t) (b3 .args .r) _ _ _ (b2 .talker-number .ensures) (c .before .first-six .ensures) (c .rest .ensures)
 
 pub gsa-row-spec : {M : Type 1} → statement M
 gsa-row-spec =

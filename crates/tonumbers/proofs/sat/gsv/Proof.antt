@@ -7,7 +7,11 @@ use Rattle.tonumbers.proofs.sat.gsv.Statement.{statement}
 use Rattle.tonumbers.proofs.sat.gsv.Tie as tie
 
 returns : tie.Need-returns
-returns c = laid-as (now (c .before .before .before .before .before .before .before .args .out)) _ _ (sym (c .before .before .before .before .before .gsv-row .ensures)) (c .before .before .lay .ensures)
+returns c =
+    let b2 = c .before .before in
+    let b5 = b2 .before .before .before in
+    let b7 = b5 .before .before in
+    laid-as (now (b7 .args .out)) _ _ (sym (b5 .gsv-row .ensures)) (b2 .lay .ensures)
 
 pub gsv-spec : {M : Type 1} → statement M
 gsv-spec =

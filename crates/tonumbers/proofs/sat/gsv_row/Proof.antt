@@ -5,7 +5,11 @@ use Rattle.tonumbers.proofs.sat.gsv_row.Statement.{statement}
 use Rattle.tonumbers.proofs.sat.gsv_row.Tie as tie
 
 returns : tie.Need-returns
-returns c = gsv-row-is (c .before .before .before .before .before .before .before .args .t) (c .before .before .before .before .before .before .before .args .t2) _ _ _ (c .before .before .before .before .before .before .talker-number .ensures) (c .before .before .before .two .ensures) (c .two2 .ensures)
+returns c =
+    let b3 = c .before .before .before in
+    let b6 = b3 .before .before .before in
+    let b7 = b6 .before in
+    gsv-row-is (b7 .args .t) (b7 .args .t2) _ _ _ (b6 .talker-number .ensures) (b3 .two .ensures) (c .two2 .ensures)
 
 pub gsv-row-spec : {M : Type 1} → statement M
 gsv-row-spec =
