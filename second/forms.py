@@ -22,6 +22,12 @@ def need(holds, at=0):
         raise Wrong(at)
 
 
+def is_there(mark):
+    """Says whether a value is there: its mark is 1, or 0 where it is missing; refuses any other number."""
+    need(mark in (0, 1))
+    return mark == 1
+
+
 def decimal(text, width):
     """Gives the number said by exactly `width` digits 0-9; refuses anything else."""
     need(len(text) == width and re.fullmatch(rb"[0-9]+", text))
@@ -133,7 +139,7 @@ class Optional:
         return [1] + self.form.read(texts)
 
     def write(self, values):
-        if values[0]:
+        if is_there(values[0]):
             return self.form.write(values[1:])
         need(not any(values[1:]))
         return [b""]

@@ -9,6 +9,8 @@ from sky import write_group
 
 ARC = 600000
 WHOLE = 999999999
+# Numbers that are no marks.
+NO_MARKS = [2, -1, 255, 4294967297]
 
 # One number each: the lowest and the highest, missing or not. Position, date and letters are told apart by name.
 COLUMNS = {
@@ -64,6 +66,8 @@ def column(rng, what, bad):
     value = (value_out if bad else value_in)(rng, low, high)
     if way == "is":
         return [value]
+    if bad and rng.random() < 0.25:
+        return [rng.choice(NO_MARKS), rng.choice([0, value_in(rng, low, high)])]
     missing = rng.random() < 0.25
     return [0, rng.choice([1, -1, value]) if bad else 0] if missing else [1, value]
 
@@ -73,8 +77,8 @@ def position(rng, bad):
     lat, lon = value_in(rng, -90 * ARC, 90 * ARC), value_in(rng, -180 * ARC, 180 * ARC)
     if not bad:
         return [0, 0, 0] if rng.random() < 0.2 else [1, lat, lon]
-    return rng.choice([[0, 1, 0], [0, 0, -1], [0, lat, lon], [1, 90 * ARC + 1, lon], [1, -90 * ARC - 1, lon],
-                       [1, lat, 180 * ARC + 1], [1, lat, -180 * ARC - 1], [1, 90 * ARC + 1, 180 * ARC + 1]])
+    return rng.choice([[0, 1, 0], [0, 0, -1], [0, lat, lon], [rng.choice(NO_MARKS), lat, lon], [rng.choice(NO_MARKS), 0, 0],
+                       [1, 90 * ARC + 1, lon], [1, -90 * ARC - 1, lon], [1, lat, 180 * ARC + 1], [1, lat, -180 * ARC - 1], [1, 90 * ARC + 1, 180 * ARC + 1]])
 
 
 def date(rng, bad):
@@ -82,7 +86,8 @@ def date(rng, bad):
     day, month, year = real_date(rng)
     if not bad:
         return [0, 0, 0, 0] if rng.random() < 0.2 else [1, day, month, year]
-    return rng.choice([[0, 1, 0, 0], [0, 0, 1, 0], [0, 0, 0, 2000], [0, day, month, year], [1, 0, month, year],
+    return rng.choice([[0, 1, 0, 0], [0, 0, 1, 0], [0, 0, 0, 2000], [0, day, month, year], [rng.choice(NO_MARKS), day, month, year],
+                       [rng.choice(NO_MARKS), 0, 0, 0], [1, 0, month, year],
                        [1, 32, month, year], [1, day, 0, year], [1, day, 13, year], [1, day, month, 1979],
                        [1, day, month, 2080], [1, 29, 2, 2023], [1, 30, 2, 2024], [1, 31, rng.choice([4, 6, 9, 11]), year],
                        [1, 29, 2, year], [1, 0, 13, 1979], [1, 32, 0, 2000], [1, 30, 2, 2080], [1, 0, 0, 0]])

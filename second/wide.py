@@ -2,7 +2,7 @@
 
 import re
 
-from forms import Wrong, decimal, need
+from forms import Wrong, decimal, is_there, need
 
 # Ten-thousandths of a minute of arc in a degree.
 DEGREE = 60 * 10000
@@ -54,9 +54,10 @@ class Position:
 
     def write(self, values):
         mark, latitude, longitude = values
-        need(abs(latitude) <= (MOST_LATITUDE if mark else 0), 0)
-        need(abs(longitude) <= (MOST_LONGITUDE if mark else 0), 2)
-        if not mark:
+        there = is_there(mark)
+        need(abs(latitude) <= (MOST_LATITUDE if there else 0), 0)
+        need(abs(longitude) <= (MOST_LONGITUDE if there else 0), 2)
+        if not there:
             return [b""] * 4
         return write_arc(latitude, 2, b"N", b"S") + write_arc(longitude, 3, b"E", b"W")
 
@@ -115,7 +116,7 @@ class LongDate:
 
     def write(self, values):
         mark, parts = values[0], list(values[1:])
-        if not mark:
+        if not is_there(mark):
             for at in (0, 1, 2):
                 need(parts[at] == 0, at)
             return [b""] * 3
@@ -156,7 +157,7 @@ class LongZone:
 
     def write(self, values):
         mark, value = values
-        if not mark:
+        if not is_there(mark):
             need(value == 0, 0)
             return [b"", b""]
         sign, hours, minutes = zone_parts(value)

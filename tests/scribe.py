@@ -9,25 +9,6 @@ from test_second import second
 WORDS = {"lines": b"line ", "field": b"field ", "write": b"", "groups": b"group ", "write-groups": b"table ", "commands": b"step ",
          "counts": b"counts ", "index-write": b"index-write ", "index-read": b"index-read ", "index-add": b"index-add ",
          "index-find": b"index-find "}
-# Where a row has the GPS mask of the settings.
-MASKS = {"commands": 10, "counts": 8}
-
-
-def gps_mask(mode, row):
-    """The GPS mask that a row has, or None."""
-    words = row.split()
-    if mode in MASKS:
-        return int(words[MASKS[mode]])
-    if mode == "write" and words[0] == b"PIRSA":
-        return int(words[2])
-    return int(words[3]) if mode == "write" and words[0] == b"PIRSR" and words[2] != b"0" else None
-
-
-def can_be_said(mode, row):
-    """Whether 32 bits can hold the row's GPS mask: each bit may stand, so no number of 32 bits is outside its range."""
-    mask = gps_mask(mode, row)
-    return mask is None or 0 <= mask <= 0xFFFFFFFF
-
 
 def answers(rows):
     """What the scribe answers."""

@@ -1,6 +1,6 @@
 """The proved writers, by way of the program scribe, against the second program: seeded records, every room, rows that are none."""
 from programs import run
-from scribe import agreed, answers, can_be_said, line_of, short
+from scribe import agreed, answers, line_of, short
 from test_second import generated
 
 SEEDS = (21, 22, 23)
@@ -16,12 +16,10 @@ def kind_of(row):
 
 
 def seeded():
-    """The rows of all seeds whose masks a record can hold."""
+    """The rows of all seeds."""
     rows = [row for seed in SEEDS for row in generated("write", COUNT, seed).splitlines()]
     assert len(rows) == COUNT * len(SEEDS)
-    kept = [row for row in rows if can_be_said("write", row)]
-    assert 0 < len(rows) - len(kept) < len(rows) * 0.06
-    return kept
+    return rows
 
 
 def test_every_answer_is_the_second_programs():
@@ -76,6 +74,38 @@ def test_numbers_too_wide_for_a_record():
     signed = [b"840", b"-840", b"2147483648", b"-2147483648", b"-2147483649", b"4294967296", b"-4294967296", b"-4294967297", b"9" * 60]
     assert set(answers([b"PIREA 82 " + wide for wide in plain])) == {b"refused 5 1 1"}
     assert set(answers([b"PIRTA 82 0 " + wide for wide in signed])) == {b"refused 5 1 2"}
+    masks = [b"-1", b"4294967296", b"4294967297", b"-4294967295", b"9" * 60]
+    assert set(agreed("write", [row % mask for mask in masks for row in (b"PIRSR 82 1 %s 7 7", b"PIRSA 82 %s -1")])) == {b"refused 5 1 1"}
+    assert set(agreed("write", [b"PIRSR 82 0 %s 0 0" % mask for mask in masks])) == {b"refused 5 1 1"}
+    assert short(agreed("write", [b"PIRSA 82 4294967295 0"])[0]) == "ok"
+
+
+# A record of each kind with marks, each value there; where its marks stand among its numbers, and the field of each.
+MARKED = {
+    b"GPGGA": (b"1 0 1 0 0 0 1 0 1 0 1 0 1 0 1 0 1 0", {0: 1, 2: 2, 6: 7, 8: 8, 10: 9, 12: 11, 14: 13, 16: 14}),
+    b"GPGLL": (b"1 0 0 1 0 65 65", {0: 1, 3: 5}),
+    b"GPGSA": (b"65 1" + b" 1 1" * 12 + b" 1 0 1 0 1 0", {2 * k: k + 2 for k in range(1, 16)}),
+    b"GPGSV": (b"1 1 1 1 5 1 0 1 0 1 0" + b" 0" * 21, {5: 5, 7: 6, 9: 7}),
+    b"GPRMC": (b"1 0 65 1 0 0 1 0 1 0 1 15 11 2026 1 0 65", {0: 1, 3: 3, 6: 7, 8: 8, 10: 9, 14: 10}),
+    b"GPVTG": (b"1 0 1 0 1 0 1 0 65", {0: 1, 2: 3, 4: 5, 6: 7}),
+    b"GPZDA": (b"1 0 1 15 11 2026 1 0", {0: 1, 2: 2, 6: 5}),
+    b"PIRPR": (b"1 0 1 4800 1 4 1 127", {0: 1, 2: 2, 4: 3, 6: 4}),
+    b"PIRTR": (b"1 0 1 0", {0: 1, 2: 2}),
+    b"PIRSR": (b"1 0 1 0", {0: 1, 2: 2}),
+}
+
+
+def test_a_number_that_is_no_mark_is_refused_at_its_field():
+    sound = [b"%s 82 %s" % (address, numbers) for address, (numbers, _) in MARKED.items()]
+    assert {short(answer) for answer in agreed("write", sound)} == {"ok"}
+    rows, expected = [], []
+    for address, (numbers, fields) in MARKED.items():
+        for place, field in fields.items():
+            for mark in (b"2", b"-1", b"255", b"4294967297", b"9" * 60):
+                words = numbers.split()
+                rows.append(b" ".join([address, b"82", *words[:place], mark, *words[place + 1:]]))
+                expected.append(b"refused 5 1 %d" % field)
+    assert agreed("write", rows) == expected
 
 
 def test_a_rest_without_lf_is_no_row():

@@ -41,9 +41,9 @@ fn sum_by_rattle(s: &[u8]) -> u64 {
         return 1_000_000 * u64::from(no) + 1_000 * line as u64 + field as u64;
     }
     let count = numbers[1] as usize;
-    numbers[2..2 + 7 * count].chunks_exact(7).fold(u64::from(numbers[0]) + 10 * count as u64, |n, e| {
-        let value = |i: usize| if e[i] > 0 { 7 + u64::from(e[i + 1]) } else { 0 };
-        n + u64::from(e[0]) + value(1) + value(3) + value(5)
+    numbers[2..2 + 7 * count].chunks_exact(7).fold(numbers[0] as u64 + 10 * count as u64, |n, e| {
+        let value = |i: usize| if e[i] > 0 { 7 + e[i + 1] as u64 } else { 0 };
+        n + e[0] as u64 + value(1) + value(3) + value(5)
     })
 }
 

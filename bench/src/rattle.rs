@@ -9,7 +9,7 @@ pub use castanwel::Finder;
 /// A record as numbers: its kind, and at most so many.
 pub struct Numbers {
     pub kind: u32,
-    pub values: [u32; RECORD],
+    pub values: [i64; RECORD],
 }
 
 impl Numbers {
@@ -50,19 +50,19 @@ pub fn write(record: &Numbers, out: &mut [u8]) -> usize {
 }
 
 /// Reads a group to its numbers: number, line and field of the refusal, or zeros.
-pub fn read_group(s: &[u8], sky: &mut [u32; GROUP]) -> (u8, usize, usize) {
+pub fn read_group(s: &[u8], sky: &mut [i64; GROUP]) -> (u8, usize, usize) {
     told(numbers::read_group(s, sky).err())
 }
 
 /// The settings of the receiver at start.
-pub fn start() -> [u32; SETTINGS] {
+pub fn start() -> [i64; SETTINGS] {
     let mut settings = [0; SETTINGS];
     numbers::start(&mut settings).expect("there is room for the settings");
     settings
 }
 
 /// Takes the line of a command: number, line and field of its refusal, or zeros, and the length of the reply.
-pub fn step(settings: &mut [u32; SETTINGS], arrival: u32, line: &[u8], out: &mut [u8]) -> (u8, usize, usize, usize) {
+pub fn step(settings: &mut [i64; SETTINGS], arrival: u32, line: &[u8], out: &mut [u8]) -> (u8, usize, usize, usize) {
     match numbers::step(settings, arrival, line, out) {
         Ok(length) => (0, 0, 0, length),
         Err(r) => (r.number, r.line, r.field, 0),

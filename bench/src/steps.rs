@@ -31,9 +31,12 @@ fn step_by_call(settings: Settings, arrival: u32, line: &[u8], out: &mut [u8]) -
     settings.step(arrival, line, out)
 }
 
-fn numbers(s: &Settings) -> [u32; 11] {
+fn numbers(s: &Settings) -> [i64; 11] {
     let [a, b] = s.ports;
-    [a.rate, a.protocol, a.mask, b.rate, b.protocol, b.mask, s.datum.datum, s.datum.zone as u32, s.gps, s.glonass, s.code]
+    let [r, p, m] = [a.rate, a.protocol, a.mask].map(i64::from);
+    let [q, o, n] = [b.rate, b.protocol, b.mask].map(i64::from);
+    let [gps, glonass, code] = [s.gps, s.glonass, s.code].map(i64::from);
+    [r, p, m, q, o, n, i64::from(s.datum.datum), i64::from(s.datum.zone), gps, glonass, code]
 }
 
 pub fn all_by_rattle(lines: &[Vec<u8>]) -> u64 {

@@ -12,14 +12,14 @@ extern "C" {
     fn castanwel_read(
         line: *const u8,
         line_len: usize,
-        numbers: *mut u32,
+        numbers: *mut i64,
         numbers_len: usize,
         kind: *mut u32,
         field: *mut usize,
     ) -> u8;
     fn castanwel_write(
         kind: u32,
-        numbers: *const u32,
+        numbers: *const i64,
         numbers_len: usize,
         out: *mut u8,
         out_len: usize,
@@ -30,13 +30,13 @@ extern "C" {
     fn castanwel_read_group(
         s: *const u8,
         s_len: usize,
-        numbers: *mut u32,
+        numbers: *mut i64,
         numbers_len: usize,
         line: *mut usize,
         field: *mut usize,
     ) -> u8;
     fn castanwel_write_group(
-        numbers: *const u32,
+        numbers: *const i64,
         numbers_len: usize,
         out: *mut u8,
         out_len: usize,
@@ -44,9 +44,9 @@ extern "C" {
         line: *mut usize,
         field: *mut usize,
     ) -> u8;
-    fn castanwel_start(settings: *mut u32, settings_len: usize) -> u8;
+    fn castanwel_start(settings: *mut i64, settings_len: usize) -> u8;
     fn castanwel_step(
-        settings: *mut u32,
+        settings: *mut i64,
         settings_len: usize,
         arrival: u32,
         line: *const u8,
@@ -57,7 +57,7 @@ extern "C" {
         at_line: *mut usize,
         field: *mut usize,
     ) -> u8;
-    fn castanwel_counts(settings: *const u32, settings_len: usize, gps: *mut u32, glonass: *mut u32) -> u8;
+    fn castanwel_counts(settings: *const i64, settings_len: usize, gps: *mut u32, glonass: *mut u32) -> u8;
     fn castanwel_index_write(
         entries: *const u64,
         entries_len: usize,
@@ -169,7 +169,7 @@ pub fn refusal(line: &[u8]) -> Option<Refusal> {
 /// assert_eq!(castanwel::numbers::read(b"$GNGSV,1,1,00*67\r\n", &mut numbers), Ok(4));
 /// assert_eq!(numbers[..5], [4, 1, 1, 0, 0]);
 /// ```
-pub fn read(line: &[u8], numbers: &mut [u32]) -> Result<u32, Refusal> {
+pub fn read(line: &[u8], numbers: &mut [i64]) -> Result<u32, Refusal> {
     let (mut kind, mut field) = (0, 0);
     let number = unsafe {
         castanwel_read(line.as_ptr(), line.len(), numbers.as_mut_ptr(), numbers.len(), &mut kind, &mut field)
@@ -179,14 +179,15 @@ pub fn read(line: &[u8], numbers: &mut [u32]) -> Result<u32, Refusal> {
 }
 
 /// Writes the line of the record of a kind, and gives its length. Refused with line and field 0: 3 for a kind or a talker that
-/// there is not, 5 where `numbers` is shorter than the record.
+/// there is not, 5 where `numbers` is shorter than the record. A number that is no mark, or that its field cannot have, is 5 at that
+/// field.
 ///
 /// ```
 /// let mut out = [0; 82];
 /// let length = castanwel::numbers::write(15, &[17], &mut out).unwrap();
 /// assert_eq!(&out[..length], b"$PIREA,17*65\r\n");
 /// ```
-pub fn write(kind: u32, numbers: &[u32], out: &mut [u8]) -> Result<usize, Refusal> {
+pub fn write(kind: u32, numbers: &[i64], out: &mut [u8]) -> Result<usize, Refusal> {
     let (mut length, mut line, mut field) = (0, 0, 0);
     let (pointer, room) = (out.as_mut_ptr(), out.len());
     let number = unsafe {
@@ -203,7 +204,7 @@ pub fn write(kind: u32, numbers: &[u32], out: &mut [u8]) -> Result<usize, Refusa
 /// castanwel::numbers::read_group(b"$GPGSV,1,1,01,05,,,*7D\r\n", &mut numbers).unwrap();
 /// assert_eq!(numbers[..9], [0, 1, 5, 0, 0, 0, 0, 0, 0]);
 /// ```
-pub fn read_group(s: &[u8], numbers: &mut [u32]) -> Result<(), Refusal> {
+pub fn read_group(s: &[u8], numbers: &mut [i64]) -> Result<(), Refusal> {
     let (mut line, mut field) = (0, 0);
     let number = unsafe {
         castanwel_read_group(s.as_ptr(), s.len(), numbers.as_mut_ptr(), numbers.len(), &mut line, &mut field)
@@ -221,7 +222,7 @@ pub fn read_group(s: &[u8], numbers: &mut [u32]) -> Result<(), Refusal> {
 /// let length = castanwel::numbers::write_group(&numbers, &mut out).unwrap();
 /// assert_eq!(&out[..length], b"$GPGSV,1,1,01,05,,,*7D\r\n");
 /// ```
-pub fn write_group(numbers: &[u32], out: &mut [u8]) -> Result<usize, Refusal> {
+pub fn write_group(numbers: &[i64], out: &mut [u8]) -> Result<usize, Refusal> {
     let (mut length, mut line, mut field) = (0, 0, 0);
     let (pointer, room) = (out.as_mut_ptr(), out.len());
     let number = unsafe {
@@ -238,13 +239,13 @@ pub fn write_group(numbers: &[u32], out: &mut [u8]) -> Result<usize, Refusal> {
 /// castanwel::numbers::start(&mut settings).unwrap();
 /// assert_eq!(settings, [4800, 4, 127, 4800, 4, 127, 0, 0, 0xffff_ffff, 0xff_ffff, 0]);
 /// ```
-pub fn start(settings: &mut [u32]) -> Result<(), Refusal> {
+pub fn start(settings: &mut [i64]) -> Result<(), Refusal> {
     let number = unsafe { castanwel_start(settings.as_mut_ptr(), settings.len()) };
     refused(number, 0, 0)
 }
 
 /// Carries out the command `line` that arrived on a port: changes the settings, writes the reply and gives its length. A refusal
-/// leaves both; it is 5 with line 0 where `settings` is too short.
+/// leaves both; it is 5 with line 0 where `settings` is too short or a setting is out of range.
 ///
 /// ```
 /// let mut settings = [0; castanwel::numbers::SETTINGS];
@@ -252,9 +253,9 @@ pub fn start(settings: &mut [u32]) -> Result<(), Refusal> {
 /// let mut out = [0; 82];
 /// let length = castanwel::numbers::step(&mut settings, 0, b"$PIRTR,1,-0030*52\r\n", &mut out).unwrap();
 /// assert_eq!(&out[..length], b"$PIRTA,1,-0030*41\r\n");
-/// assert_eq!(settings[6..8], [1, -30i32 as u32]);
+/// assert_eq!(settings[6..8], [1, -30]);
 /// ```
-pub fn step(settings: &mut [u32], arrival: u32, line: &[u8], out: &mut [u8]) -> Result<usize, Refusal> {
+pub fn step(settings: &mut [i64], arrival: u32, line: &[u8], out: &mut [u8]) -> Result<usize, Refusal> {
     let (mut length, mut at_line, mut field) = (0, 0, 0);
     let number = unsafe {
         castanwel_step(
@@ -281,7 +282,7 @@ pub fn step(settings: &mut [u32], arrival: u32, line: &[u8], out: &mut [u8]) -> 
 /// let settings = [4800, 4, 127, 4800, 4, 127, 0, 0, 0x7ffe_ffff, 0xff_fffe, 0];
 /// assert_eq!(castanwel::numbers::counts(&settings), Ok((30, 23)));
 /// ```
-pub fn counts(settings: &[u32]) -> Result<(u32, u32), Refusal> {
+pub fn counts(settings: &[i64]) -> Result<(u32, u32), Refusal> {
     let (mut gps, mut glonass) = (0, 0);
     let number = unsafe { castanwel_counts(settings.as_ptr(), settings.len(), &mut gps, &mut glonass) };
     refused(number, 0, 0)?;

@@ -1,9 +1,9 @@
 //! The proved functions on plain numbers.
 //!
-//! docs/LAYOUT.md says which numbers a record, a group and the settings have. A kind goes by [`Kind::number`](crate::Kind::number), a
-//! talker by its place in [`Talker::ALL`](crate::Talker::ALL); a value with a sign stands as its 32 bits in two's complement. Here a caller
-//! can say what a typed record cannot: a value that is marked missing and is not zero, a kind or a talker that there is not. The numbers
-//! of an index have 64 bits, so that one past 4294967295 can be said and is refused.
+//! docs/LAYOUT.md says which numbers a record, a group and the settings have, of 64 bits with a sign, one a value. A kind goes by
+//! [`Kind::number`](crate::Kind::number), a talker by its place in [`Talker::ALL`](crate::Talker::ALL). Here a caller can say what a typed
+//! record cannot: a value that is marked missing and is not zero, a number that is no mark, one that no record holds, a kind or a talker
+//! that there is not; all are refused. The numbers of an index have 64 bits without a sign.
 
 pub use crate::ffi::{counts, feed, next_line, places, read, read_group, start, step, write, write_group};
 pub use crate::ffi::{index_add, index_find, index_read, index_write};
@@ -26,10 +26,10 @@ pub const ENTRY_BYTES: usize = 11;
 /// What a number is.
 #[derive(Clone, Copy, Debug, PartialEq, Eq)]
 pub enum Cell {
-    /// Whether the value behind it is there: 0 where it is missing, any other number where it is there.
+    /// Whether the value behind it is there: 0 where it is missing, 1 where it is there.
     Mark,
     /// A value without a sign.
     Plain,
-    /// A value with a sign, in two's complement.
+    /// A value with a sign.
     Signed,
 }

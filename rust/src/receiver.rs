@@ -109,7 +109,7 @@ impl Settings {
     /// let numbers = castanwel::Settings::start().numbers();
     /// assert_eq!(numbers[..3], [4800, 4, 127]);
     /// ```
-    pub fn numbers(&self) -> [u32; SETTINGS] {
+    pub fn numbers(&self) -> [i64; SETTINGS] {
         let mut numbers = [0; SETTINGS];
         take_down(*self, &mut numbers);
         numbers

@@ -40,8 +40,8 @@ impl Talker {
 
 impl Walk for Talker {
     fn walk<C: Cursor>(&mut self, c: &mut C) {
-        let number = c.number(Cell::Plain, *self as u32);
-        *self = *Talker::ALL.get(number as usize).expect("a proved reader gives a talker from 0 to 4");
+        let number = usize::try_from(c.number(Cell::Plain, *self as i64)).unwrap_or(Talker::ALL.len());
+        *self = *Talker::ALL.get(number).expect("a proved reader gives a talker from 0 to 4");
     }
 }
 

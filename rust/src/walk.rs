@@ -5,7 +5,7 @@ use crate::numbers::Cell;
 
 /// What goes along the numbers of a value: it is shown each number, and gives the one that the value has from then on.
 pub(crate) trait Cursor {
-    fn number(&mut self, cell: Cell, number: u32) -> u32;
+    fn number(&mut self, cell: Cell, number: i64) -> i64;
 }
 
 /// A value that is made of numbers.
@@ -15,27 +15,27 @@ pub(crate) trait Walk {
 
 impl Walk for u32 {
     fn walk<C: Cursor>(&mut self, c: &mut C) {
-        *self = c.number(Cell::Plain, *self);
+        *self = u32::try_from(c.number(Cell::Plain, i64::from(*self))).unwrap_or(u32::MAX);
     }
 }
 
 impl Walk for i32 {
     fn walk<C: Cursor>(&mut self, c: &mut C) {
-        *self = c.number(Cell::Signed, *self as u32) as i32;
+        *self = i32::try_from(c.number(Cell::Signed, i64::from(*self))).unwrap_or(i32::MAX);
     }
 }
 
 /// A letter is its byte; a number that is no byte is no letter, 0.
 impl Walk for u8 {
     fn walk<C: Cursor>(&mut self, c: &mut C) {
-        *self = u8::try_from(c.number(Cell::Plain, u32::from(*self))).unwrap_or(0);
+        *self = u8::try_from(c.number(Cell::Plain, i64::from(*self))).unwrap_or(0);
     }
 }
 
 /// A mark, and the value, which is blank where it is missing.
 impl<T: Walk + Default> Walk for Option<T> {
     fn walk<C: Cursor>(&mut self, c: &mut C) {
-        let there = c.number(Cell::Mark, u32::from(self.is_some())) != 0;
+        let there = c.number(Cell::Mark, i64::from(self.is_some())) == 1;
         let mut value = self.take().unwrap_or_default();
         value.walk(c);
         *self = if there { Some(value) } else { None };
@@ -67,12 +67,12 @@ pub(crate) use in_order;
 
 /// Takes the numbers of a value down.
 struct Down<'a> {
-    numbers: &'a mut [u32],
+    numbers: &'a mut [i64],
     at: usize,
 }
 
 impl Cursor for Down<'_> {
-    fn number(&mut self, _: Cell, number: u32) -> u32 {
+    fn number(&mut self, _: Cell, number: i64) -> i64 {
         self.numbers[self.at] = number;
         self.at += 1;
         number
@@ -81,12 +81,12 @@ impl Cursor for Down<'_> {
 
 /// Puts numbers in the place of a value's own.
 struct Up<'a> {
-    numbers: &'a [u32],
+    numbers: &'a [i64],
     at: usize,
 }
 
 impl Cursor for Up<'_> {
-    fn number(&mut self, _: Cell, _: u32) -> u32 {
+    fn number(&mut self, _: Cell, _: i64) -> i64 {
         self.at += 1;
         self.numbers[self.at - 1]
     }
@@ -98,21 +98,21 @@ struct Noting {
 }
 
 impl Cursor for Noting {
-    fn number(&mut self, cell: Cell, number: u32) -> u32 {
+    fn number(&mut self, cell: Cell, number: i64) -> i64 {
         self.cells.push(cell);
         number
     }
 }
 
 /// Stores the numbers of a value, and gives how many they are.
-pub(crate) fn take_down(mut value: impl Walk, numbers: &mut [u32]) -> usize {
+pub(crate) fn take_down(mut value: impl Walk, numbers: &mut [i64]) -> usize {
     let mut down = Down { numbers, at: 0 };
     value.walk(&mut down);
     down.at
 }
 
 /// The value with these numbers in place of its own.
-pub(crate) fn put_up<T: Walk>(mut value: T, numbers: &[u32]) -> T {
+pub(crate) fn put_up<T: Walk>(mut value: T, numbers: &[i64]) -> T {
     value.walk(&mut Up { numbers, at: 0 });
     value
 }

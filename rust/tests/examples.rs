@@ -136,7 +136,7 @@ fn numbers_step() {
     let mut out = [0; 82];
     let length = castanwel::numbers::step(&mut settings, 0, b"$PIRTR,1,-0030*52\r\n", &mut out).unwrap();
     assert_eq!(&out[..length], b"$PIRTA,1,-0030*41\r\n");
-    assert_eq!(settings[6..8], [1, -30i32 as u32]);
+    assert_eq!(settings[6..8], [1, -30]);
 }
 
 #[test]

@@ -2,7 +2,7 @@
 
 mod common;
 
-use castanwel::numbers::{self, Cell, RECORD};
+use castanwel::numbers::{self, RECORD};
 use castanwel::{read, refusal, write, Kind, Refusal, Sentence, Talker, LONGEST};
 use common::{one_of_each, samples, some_line, Rng};
 
@@ -15,9 +15,7 @@ fn answer(line: &[u8]) -> String {
     };
     let address = read(line).expect("it reads as numbers").address();
     let values = numbers.iter().zip(kind.cells()).skip(usize::from(kind.has_talker()));
-    let text =
-        |(&n, cell): (&u32, Cell)| if cell == Cell::Signed { format!(" {}", n as i32) } else { format!(" {}", n) };
-    format!("ok {}{}", address, values.map(text).collect::<String>())
+    format!("ok {}{}", address, values.map(|(n, _)| format!(" {}", n)).collect::<String>())
 }
 
 #[test]
@@ -118,7 +116,7 @@ fn kinds_and_talkers_that_there_are_not() {
         assert_eq!(numbers::write(kind, &[0; RECORD], &mut [0; LONGEST]), unknown, "kind {}", kind);
     }
     for kind in 1..=7 {
-        for talker in [5, 6, 255, u32::MAX] {
+        for talker in [5, 6, 255, -1, 4_294_967_296] {
             let mut numbers = [0; RECORD];
             numbers[0] = talker;
             assert_eq!(numbers::write(kind, &numbers, &mut [0; LONGEST]), unknown, "kind {}, talker {}", kind, talker);
@@ -127,12 +125,27 @@ fn kinds_and_talkers_that_there_are_not() {
 }
 
 #[test]
-fn any_mark_but_zero_says_that_a_value_is_there() {
-    for mark in [1, 2, 255, u32::MAX] {
-        let mut out = [0; LONGEST];
-        let length = numbers::write(9, &[mark, 1, mark, -30i32 as u32], &mut out).expect("a PIRTR");
-        assert_eq!(&out[..length], b"$PIRTR,1,-0030*52\r\n");
+fn a_mark_is_0_or_1() {
+    let mut out = [0; LONGEST];
+    let length = numbers::write(9, &[1, 1, 1, -30], &mut out).expect("a PIRTR");
+    assert_eq!(&out[..length], b"$PIRTR,1,-0030*52\r\n");
+    for mark in [2, 255, -1, 4_294_967_297, i64::MAX, i64::MIN] {
+        let at = |field| Err(Refusal { number: 5, line: 1, field });
+        assert_eq!(numbers::write(9, &[mark, 1, 1, -30], &mut out), at(1), "{}", mark);
+        assert_eq!(numbers::write(9, &[1, 1, mark, -30], &mut out), at(2), "{}", mark);
+        assert_eq!(numbers::write(9, &[mark, 0, mark, 0], &mut out), at(1), "{}", mark);
     }
+}
+
+#[test]
+fn a_gps_mask_that_32_bits_do_not_hold() {
+    let at_1 = Err(Refusal { number: 5, line: 1, field: 1 });
+    for mask in [-1, 4_294_967_296, i64::MAX, i64::MIN] {
+        assert_eq!(numbers::write(10, &[1, mask, 7, 7], &mut [0; LONGEST]), at_1, "{}", mask);
+        assert_eq!(numbers::write(10, &[0, mask, 0, 0], &mut [0; LONGEST]), at_1, "{}", mask);
+        assert_eq!(numbers::write(14, &[mask, -1], &mut [0; LONGEST]), at_1, "{}", mask);
+    }
+    assert!(numbers::write(14, &[4_294_967_295, 0], &mut [0; LONGEST]).is_ok());
 }
 
 #[test]

@@ -134,7 +134,7 @@ fn slices_of_numbers_that_are_too_short_and_talkers_that_there_are_not() {
         assert_eq!(answer, Err(Refusal { number: 5, line: 0, field: 0 }), "{}", short);
     }
     assert_eq!(numbers::write_group(&numbers, &mut [0; ROOM]), Ok(bytes.len()));
-    for talker in [5, 255, u32::MAX] {
+    for talker in [5, 255, -1, 4_294_967_296] {
         numbers[0] = talker;
         assert_eq!(numbers::write_group(&numbers, &mut [0; ROOM]), Err(Refusal { number: 3, line: 0, field: 0 }));
     }

@@ -4,6 +4,7 @@ use Prim.Native.Nat.{_+_, _-_, _<_, _≤_, suc, ℕ}
 use mathlib.Core.Path.{_≡_}
 use mathlib.Core.List.{[], _++_, _∷_, List}
 use mathlib.Core.Bool.{false, true}
+use lib.IntN.{ℤ}
 use lib.ListN.{drop, getD, length, take}
 use borrow.Author.Tests.{ne-eqb}
 use Rattle.digits.specs.Hex.{hexDigit}
@@ -52,9 +53,13 @@ use Rattle.receiver.specs.Settings.{settingsGood}
 use Rattle.receiver.specs.Command.{Does, namedPort, Outcome, outcomeOf, portTold, sentenceOutcome, settingsAfter}
 use Rattle.records.specs.declared.PortAsked.{PortAsked}
 use Rattle.records.specs.declared.Reading.{Reading}
-use Rattle.fromnumbers.specs.Back.{recordAt}
+use Rattle.fromnumbers.specs.Back.{ggaAt, recordAt}
 use Rattle.hostrecords.specs.ToHost.{laidFor, toldFor}
+use Rattle.hostrecords.specs.FromHost.{writtenAs}
+use Rattle.slots.specs.Slots.{isThere, isWhole}
+use Rattle.slots.specs.Layout.{numberAt}
 use Rattle.tripsnumbers.proofs.Host as Host
+use Rattle.claims.proofs.WrongNumbers as Wrong
 use Rattle.claims.proofs.Commands as Commands
 use Rattle.claims.proofs.Replies as Replies
 use Rattle.claims.proofs.Rows as Rows
@@ -258,12 +263,24 @@ pub step-alters : ((s : Settings) (p : ℕ) (l : List ℕ) (room : ℕ) → sett
 step-alters = Rows.step-alters
 
 -- A record that crossed to a host as numbers, handed back, is what the line came to; a refusal leaves the host's numbers.
-pub host-back : (l numbers : List ℕ) → (toldFor (readLine l) numbers .kind ≡ 0 → ⊥) → recordAt (toldFor (readLine l) numbers .kind)
-    (laidFor (readLine l) numbers) ≡ readLine l
+pub host-back : (l : List ℕ) (numbers : List ℤ) → (toldFor (readLine l) numbers .kind ≡ 0 → ⊥)
+    → recordAt (toldFor (readLine l) numbers .kind) (laidFor (readLine l) numbers) ≡ readLine l
 host-back = Host.host-back
 
-pub host-refusal-leaves : (r : Reading) (numbers : List ℕ) → (toldFor r numbers .no ≡ 0 → ⊥) → laidFor r numbers ≡ numbers
+pub host-refusal-leaves : (r : Reading) (numbers : List ℤ) → (toldFor r numbers .no ≡ 0 → ⊥) → laidFor r numbers ≡ numbers
 host-refusal-leaves = Host.refusal-leaves
+
+-- A number of a host that is no mark never passes for one: its value is outside every range. So for all marks of a GGA ..
+pub gga-marks : (n : List ℤ) → ggaWrong (ggaAt n) ≡ 0 → Wrong.GgaMarks n
+gga-marks = Wrong.gga-marks
+
+-- .. and a GPS mask that 32 bits do not hold is refused in field 1 of PIRSR and of PIRSA, whatever else the numbers say.
+pub gps-asked : (n : List ℤ) (out : List ℕ) → 4 ≤ length n → isThere (numberAt n 0) ≡ true → isWhole (numberAt n 1) ≡ false
+    → writtenAs 10 n out ≡ refused 5 1 1
+gps-asked = Wrong.gps-asked
+
+pub gps-told : (n : List ℤ) (out : List ℕ) → 2 ≤ length n → isWhole (numberAt n 0) ≡ false → writtenAs 14 n out ≡ refused 5 1 1
+gps-told = Wrong.gps-told
 
 -- The worked rows hold of the definitions.
 pub worked-rows : AllHold rows

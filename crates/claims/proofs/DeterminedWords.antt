@@ -3,6 +3,7 @@ use Prim.Native.Nat.{ℕ}
 use mathlib.Core.Path.{_∙_, _≡_, ap, refl, sym}
 use mathlib.Core.Option.{none, Option, some}
 use mathlib.Core.List.{List}
+use lib.IntN.{ℤ}
 use Rattle.put.specs.Wrote.{Held, wrote}
 use Rattle.phrases.specs.Phrases.{measureText}
 use Rattle.words.specs.Words.{kindText, refusalText, wordsText}
@@ -13,10 +14,10 @@ use Rattle.exhibits_lists.specs.Lists.{askedOf, bodyOf, number, numberOf, rowOf
 use Rattle.claims.proofs.Determined.{One, one}
 
 -- phrases, words
-pub put-measure : (h : Held) (f u v w : ℕ) → One (wrote h (measureText f u v w))
-put-measure h f u v w = one
+pub put-measure : (h : Held) (f : ℕ) (numbers : List ℤ) → One (wrote h (measureText f numbers))
+put-measure h f numbers = one
 
-pub put-words : (h : Held) (kind : ℕ) (numbers : List ℕ) → One (wrote h (wordsText kind numbers))
+pub put-words : (h : Held) (kind : ℕ) (numbers : List ℤ) → One (wrote h (wordsText kind numbers))
 put-words h kind numbers = one
 
 pub put-kind : (h : Held) (kind : ℕ) → One (wrote h (kindText kind))

@@ -18,3 +18,4 @@ pub mod DeterminedReceiver
 pub mod DeterminedHost
 pub mod DeterminedIndex
 pub mod DeterminedWords
+pub mod WrongNumbers

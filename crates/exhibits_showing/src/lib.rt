@@ -58,7 +58,7 @@ fn say_refused(exhibit: u64, no: u8, field: u64) {
 }
 
 // Puts what a record is and its fields in words, a row each.
-fn put_fields(out: &mut [u8], kind: u32, numbers: &[u32]) -> usize {
+fn put_fields(out: &mut [u8], kind: u32, numbers: &[i64]) -> usize {
     let a1 = put::put_bytes(out, 0, b"sentence: ");
     let a2 = words::put_kind(out, a1, kind);
     let a3 = put::put(out, a2, 10);
@@ -66,13 +66,13 @@ fn put_fields(out: &mut [u8], kind: u32, numbers: &[u32]) -> usize {
 }
 
 // Reads a line to the numbers of its record.
-fn read(line: &[u8], numbers: &mut [u32]) -> Told {
+fn read(line: &[u8], numbers: &mut [i64]) -> Told {
     hostrecords::read(line, numbers)
 }
 
 // Writes the fields of a line in words, or says why the reader refuses it.
 fn show_fields(exhibit: u64, line: &[u8]) {
-    let mut numbers = [0u32; 33];
+    let mut numbers = [0i64; 33];
     let told = read(line, &mut numbers);
     if told.no != 0 {
         return say_refused(exhibit, told.no, told.field as u64);

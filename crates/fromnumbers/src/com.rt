@@ -10,7 +10,7 @@ use records::PortTold;
 ghost use mathlib.Core.Path.{_≡_};
 ghost use Rattle.fromnumbers.specs.Back.{pirprAt, pirtrAt, pirsrAt, pirpaAt, pirtaAt, pirsaAt, pireaAt};
 
-pub fn pirpr(n: &[u32]) -> PortAsked
+pub fn pirpr(n: &[i64]) -> PortAsked
     ensures { λ r. ⌜ r ≡ pirprAt (now (n .entry)) ⌝ }
 {
     PortAsked {
@@ -21,7 +21,7 @@ pub fn pirpr(n: &[u32]) -> PortAsked
     }
 }
 
-pub fn pirtr(n: &[u32]) -> DatumAsked
+pub fn pirtr(n: &[i64]) -> DatumAsked
     ensures { λ r. ⌜ r ≡ pirtrAt (now (n .entry)) ⌝ }
 {
     DatumAsked {
@@ -30,7 +30,7 @@ pub fn pirtr(n: &[u32]) -> DatumAsked
     }
 }
 
-pub fn pirsr(n: &[u32]) -> MasksAsked
+pub fn pirsr(n: &[i64]) -> MasksAsked
     ensures { λ r. ⌜ r ≡ pirsrAt (now (n .entry)) ⌝ }
 {
     MasksAsked {
@@ -39,39 +39,39 @@ pub fn pirsr(n: &[u32]) -> MasksAsked
     }
 }
 
-pub fn pirpa(n: &[u32]) -> PortTold
+pub fn pirpa(n: &[i64]) -> PortTold
     ensures { λ r. ⌜ r ≡ pirpaAt (now (n .entry)) ⌝ }
 {
     PortTold {
-        port: slots::at(n, 0),
-        rate: slots::at(n, 1),
-        protocol: slots::at(n, 2),
-        mask: slots::at(n, 3),
+        port: slots::whole_at(n, 0),
+        rate: slots::whole_at(n, 1),
+        protocol: slots::whole_at(n, 2),
+        mask: slots::whole_at(n, 3),
     }
 }
 
-pub fn pirta(n: &[u32]) -> DatumTold
+pub fn pirta(n: &[i64]) -> DatumTold
     ensures { λ r. ⌜ r ≡ pirtaAt (now (n .entry)) ⌝ }
 {
     DatumTold {
-        datum: slots::at(n, 0),
-        zone: slots::signed(slots::at(n, 1)),
+        datum: slots::whole_at(n, 0),
+        zone: slots::signed_at(n, 1),
     }
 }
 
-pub fn pirsa(n: &[u32]) -> MasksTold
+pub fn pirsa(n: &[i64]) -> MasksTold
     ensures { λ r. ⌜ r ≡ pirsaAt (now (n .entry)) ⌝ }
 {
     MasksTold {
-        gps: slots::at(n, 0),
-        glonass: slots::at(n, 1),
+        gps: slots::whole_at(n, 0),
+        glonass: slots::whole_at(n, 1),
     }
 }
 
-pub fn pirea(n: &[u32]) -> CodeTold
+pub fn pirea(n: &[i64]) -> CodeTold
     ensures { λ r. ⌜ r ≡ pireaAt (now (n .entry)) ⌝ }
 {
     CodeTold {
-        code: slots::at(n, 0),
+        code: slots::whole_at(n, 0),
     }
 }

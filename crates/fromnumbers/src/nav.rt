@@ -8,13 +8,13 @@ use records::Zda;
 ghost use mathlib.Core.Path.{_≡_};
 ghost use Rattle.fromnumbers.specs.Back.{ggaAt, gllAt, rmcAt, vtgAt, zdaAt};
 
-pub fn gga(n: &[u32]) -> Gga
+pub fn gga(n: &[i64]) -> Gga
     ensures { λ r. ⌜ r ≡ ggaAt (now (n .entry)) ⌝ }
 {
     Gga {
         time: values::maybe(n, 1),
         place: values::place(n, 3),
-        quality: slots::at(n, 6),
+        quality: slots::whole_at(n, 6),
         satellites: values::maybe(n, 7),
         hdop: values::number(n, 9),
         altitude: values::signed(n, 11),
@@ -24,33 +24,33 @@ pub fn gga(n: &[u32]) -> Gga
     }
 }
 
-pub fn gll(n: &[u32]) -> Gll
+pub fn gll(n: &[i64]) -> Gll
     ensures { λ r. ⌜ r ≡ gllAt (now (n .entry)) ⌝ }
 {
     Gll {
         place: values::place(n, 1),
         time: values::maybe(n, 4),
-        status: slots::at(n, 6),
-        mode: slots::at(n, 7),
+        status: slots::whole_at(n, 6),
+        mode: slots::whole_at(n, 7),
     }
 }
 
-pub fn rmc(n: &[u32]) -> Rmc
+pub fn rmc(n: &[i64]) -> Rmc
     ensures { λ r. ⌜ r ≡ rmcAt (now (n .entry)) ⌝ }
 {
     Rmc {
         time: values::maybe(n, 1),
-        status: slots::at(n, 3),
+        status: slots::whole_at(n, 3),
         place: values::place(n, 4),
         speed: values::knots(n, 7),
         course: values::number(n, 9),
         date: values::date(n, 11),
         variation: values::signed(n, 15),
-        mode: slots::at(n, 17),
+        mode: slots::whole_at(n, 17),
     }
 }
 
-pub fn vtg(n: &[u32]) -> Vtg
+pub fn vtg(n: &[i64]) -> Vtg
     ensures { λ r. ⌜ r ≡ vtgAt (now (n .entry)) ⌝ }
 {
     Vtg {
@@ -58,11 +58,11 @@ pub fn vtg(n: &[u32]) -> Vtg
         magnetic: values::number(n, 3),
         knots: values::knots(n, 5),
         kmh: values::kmh(n, 7),
-        mode: slots::at(n, 9),
+        mode: slots::whole_at(n, 9),
     }
 }
 
-pub fn zda(n: &[u32]) -> Zda
+pub fn zda(n: &[i64]) -> Zda
     ensures { λ r. ⌜ r ≡ zdaAt (now (n .entry)) ⌝ }
 {
     Zda {

@@ -5,11 +5,12 @@ use records::Entry;
 use records::Gsa;
 use records::Gsv;
 ghost use mathlib.Core.Path.{_≡_};
-ghost use Rattle.fromnumbers.specs.Back.{fourAt, gsaAt, gsvAt, twelveAt};
+ghost use Rattle.slots.specs.Layout.{entryLayout, listAt, maybeLayout};
+ghost use Rattle.fromnumbers.specs.Back.{gsaAt, gsvAt};
 
 // The twelve satellites of a GSA.
-fn twelve(n: &[u32]) -> [Maybe; 12]
-    ensures { λ r. ⌜ r ≡ twelveAt (now (n .entry)) ⌝ }
+fn twelve(n: &[i64]) -> [Maybe; 12]
+    ensures { λ r. ⌜ r ≡ listAt maybeLayout (now (n .entry)) 3 12 ⌝ }
 {
     [
         values::maybe(n, 3),
@@ -28,23 +29,23 @@ fn twelve(n: &[u32]) -> [Maybe; 12]
 }
 
 // The four places of a GSV.
-fn four(n: &[u32]) -> [Entry; 4]
-    ensures { λ r. ⌜ r ≡ fourAt (now (n .entry)) ⌝ }
+fn four(n: &[i64]) -> [Entry; 4]
+    ensures { λ r. ⌜ r ≡ listAt entryLayout (now (n .entry)) 5 4 ⌝ }
 {
     [
-        values::entry(n, 5, 6, 8, 10),
-        values::entry(n, 12, 13, 15, 17),
-        values::entry(n, 19, 20, 22, 24),
-        values::entry(n, 26, 27, 29, 31),
+        values::entry(n, 5),
+        values::entry(n, 12),
+        values::entry(n, 19),
+        values::entry(n, 26),
     ]
 }
 
-pub fn gsa(n: &[u32]) -> Gsa
+pub fn gsa(n: &[i64]) -> Gsa
     ensures { λ r. ⌜ r ≡ gsaAt (now (n .entry)) ⌝ }
 {
     Gsa {
-        selection: slots::at(n, 1),
-        fix: slots::at(n, 2),
+        selection: slots::whole_at(n, 1),
+        fix: slots::whole_at(n, 2),
         satellites: twelve(n),
         pdop: values::number(n, 27),
         hdop: values::number(n, 29),
@@ -52,14 +53,14 @@ pub fn gsa(n: &[u32]) -> Gsa
     }
 }
 
-pub fn gsv(n: &[u32]) -> Gsv
+pub fn gsv(n: &[i64]) -> Gsv
     ensures { λ r. ⌜ r ≡ gsvAt (now (n .entry)) ⌝ }
 {
     Gsv {
-        lines: slots::at(n, 1),
-        line: slots::at(n, 2),
-        satellites: slots::at(n, 3),
-        count: slots::at(n, 4),
+        lines: slots::whole_at(n, 1),
+        line: slots::whole_at(n, 2),
+        satellites: slots::whole_at(n, 3),
+        count: slots::whole_at(n, 4),
         entries: four(n),
     }
 }

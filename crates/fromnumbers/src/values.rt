@@ -1,4 +1,5 @@
-// The values of records from numbers, each from its place on.
+// The values of records from numbers, each from its place on. A number that is no mark makes its value missing and not
+// zero, which the writers refuse.
 use form::Maybe;
 use form_date::Date;
 use form_date::Zone;
@@ -8,99 +9,150 @@ use form_number::Number;
 use form_number::Signed;
 use form_position::Place;
 use records::Entry;
+ghost use Prim.Native.Nat.{_≤_};
 ghost use mathlib.Core.Path.{_≡_};
-ghost use Rattle.fromnumbers.specs.Values.{dateAt, entryAt, kmhAt, knotsAt, maybeAt, numberAt, placeAt, signedAt, thereAt, zoneAt};
+ghost use Rattle.slots.specs.Layout.{dateLayout, entryLayout, kmhLayout, knotsLayout, maybeLayout, numberLayout, placeLayout, signedLayout};
+ghost use Rattle.slots.specs.Layout.{zoneLayout};
 
-// Whether the mark at a place says that a value is there.
-fn there(n: &[u32], i: u8) -> bool
-    ensures { λ r. ⌜ r ≡ thereAt (now (n .entry)) i ⌝ }
+fn maybe_at(n: &[i64], at: usize) -> Maybe
+    requires { ⌜ at ≤ 65540 ⌝ }
+    ensures { λ r. ⌜ r ≡ maybeLayout .at (now (n .entry)) at ⌝ }
 {
-    slots::marked(slots::at(n, i as usize))
-}
-
-pub fn maybe(n: &[u32], i: u8) -> Maybe
-    ensures { λ r. ⌜ r ≡ maybeAt (now (n .entry)) i ⌝ }
-{
-    Maybe {
-        there: there(n, i),
-        value: slots::at(n, i as usize + 1),
+    let there = slots::there_at(n, at);
+    if slots::is_mark_at(n, at) {
+        return Maybe {
+            there,
+            value: slots::whole_at(n, at + 1),
+        };
     }
+    Maybe { there, value: 1 }
 }
 
-pub fn number(n: &[u32], i: u8) -> Number
-    ensures { λ r. ⌜ r ≡ numberAt (now (n .entry)) i ⌝ }
+pub fn maybe(n: &[i64], i: u16) -> Maybe
+    ensures { λ r. ⌜ r ≡ maybeLayout .at (now (n .entry)) i ⌝ }
 {
-    Number {
-        there: there(n, i),
-        value: slots::at(n, i as usize + 1),
+    maybe_at(n, i as usize)
+}
+
+pub fn number(n: &[i64], i: u16) -> Number
+    ensures { λ r. ⌜ r ≡ numberLayout .at (now (n .entry)) i ⌝ }
+{
+    let at = i as usize;
+    let there = slots::there_at(n, at);
+    if slots::is_mark_at(n, at) {
+        return Number {
+            there,
+            value: slots::whole_at(n, at + 1),
+        };
     }
+    Number { there, value: 1 }
 }
 
-pub fn knots(n: &[u32], i: u8) -> Knots
-    ensures { λ r. ⌜ r ≡ knotsAt (now (n .entry)) i ⌝ }
+pub fn knots(n: &[i64], i: u16) -> Knots
+    ensures { λ r. ⌜ r ≡ knotsLayout .at (now (n .entry)) i ⌝ }
 {
-    Knots {
-        there: there(n, i),
-        value: slots::at(n, i as usize + 1),
+    let at = i as usize;
+    let there = slots::there_at(n, at);
+    if slots::is_mark_at(n, at) {
+        return Knots {
+            there,
+            value: slots::whole_at(n, at + 1),
+        };
     }
+    Knots { there, value: 1 }
 }
 
-pub fn kmh(n: &[u32], i: u8) -> Kmh
-    ensures { λ r. ⌜ r ≡ kmhAt (now (n .entry)) i ⌝ }
+pub fn kmh(n: &[i64], i: u16) -> Kmh
+    ensures { λ r. ⌜ r ≡ kmhLayout .at (now (n .entry)) i ⌝ }
 {
-    Kmh {
-        there: there(n, i),
-        value: slots::at(n, i as usize + 1),
+    let at = i as usize;
+    let there = slots::there_at(n, at);
+    if slots::is_mark_at(n, at) {
+        return Kmh {
+            there,
+            value: slots::whole_at(n, at + 1),
+        };
     }
+    Kmh { there, value: 1 }
 }
 
-pub fn signed(n: &[u32], i: u8) -> Signed
-    ensures { λ r. ⌜ r ≡ signedAt (now (n .entry)) i ⌝ }
+pub fn signed(n: &[i64], i: u16) -> Signed
+    ensures { λ r. ⌜ r ≡ signedLayout .at (now (n .entry)) i ⌝ }
 {
-    Signed {
-        there: there(n, i),
-        value: slots::signed(slots::at(n, i as usize + 1)),
+    let at = i as usize;
+    let there = slots::there_at(n, at);
+    if slots::is_mark_at(n, at) {
+        return Signed {
+            there,
+            value: slots::signed_at(n, at + 1),
+        };
     }
+    Signed { there, value: 1 }
 }
 
-pub fn zone(n: &[u32], i: u8) -> Zone
-    ensures { λ r. ⌜ r ≡ zoneAt (now (n .entry)) i ⌝ }
+pub fn zone(n: &[i64], i: u16) -> Zone
+    ensures { λ r. ⌜ r ≡ zoneLayout .at (now (n .entry)) i ⌝ }
 {
-    Zone {
-        there: there(n, i),
-        minutes: slots::signed(slots::at(n, i as usize + 1)),
+    let at = i as usize;
+    let there = slots::there_at(n, at);
+    if slots::is_mark_at(n, at) {
+        return Zone {
+            there,
+            minutes: slots::signed_at(n, at + 1),
+        };
     }
+    Zone { there, minutes: 1 }
 }
 
-pub fn place(n: &[u32], i: u8) -> Place
-    ensures { λ r. ⌜ r ≡ placeAt (now (n .entry)) i ⌝ }
+pub fn place(n: &[i64], i: u16) -> Place
+    ensures { λ r. ⌜ r ≡ placeLayout .at (now (n .entry)) i ⌝ }
 {
+    let at = i as usize;
+    let there = slots::there_at(n, at);
+    if slots::is_mark_at(n, at) {
+        return Place {
+            there,
+            lat: slots::signed_at(n, at + 1),
+            lon: slots::signed_at(n, at + 1 + 1),
+        };
+    }
     Place {
-        there: there(n, i),
-        lat: slots::signed(slots::at(n, i as usize + 1)),
-        lon: slots::signed(slots::at(n, i as usize + 2)),
+        there,
+        lat: 1,
+        lon: 0,
     }
 }
 
-pub fn date(n: &[u32], i: u8) -> Date
-    ensures { λ r. ⌜ r ≡ dateAt (now (n .entry)) i ⌝ }
+pub fn date(n: &[i64], i: u16) -> Date
+    ensures { λ r. ⌜ r ≡ dateLayout .at (now (n .entry)) i ⌝ }
 {
+    let at = i as usize;
+    let there = slots::there_at(n, at);
+    if slots::is_mark_at(n, at) {
+        return Date {
+            there,
+            day: slots::whole_at(n, at + 1),
+            month: slots::whole_at(n, at + 1 + 1),
+            year: slots::whole_at(n, at + 1 + 1 + 1),
+        };
+    }
     Date {
-        there: there(n, i),
-        day: slots::at(n, i as usize + 1),
-        month: slots::at(n, i as usize + 2),
-        year: slots::at(n, i as usize + 3),
+        there,
+        day: 1,
+        month: 0,
+        year: 0,
     }
 }
 
-// The satellite whose four values begin at these places.
-pub fn entry(n: &[u32], number: u8, elevation: u8, azimuth: u8, signal: u8) -> Entry
-    ensures { λ r. ⌜ r ≡ entryAt (now (n .entry)) number elevation azimuth signal ⌝ }
+// The satellite of a GSV, or of a sky, whose number is in place `i`.
+pub fn entry(n: &[i64], i: u16) -> Entry
+    ensures { λ r. ⌜ r ≡ entryLayout .at (now (n .entry)) i ⌝ }
 {
+    let at = i as usize;
     Entry {
-        number: slots::at(n, number as usize),
-        elevation: maybe(n, elevation),
-        azimuth: maybe(n, azimuth),
-        signal: maybe(n, signal),
+        number: slots::whole_at(n, at),
+        elevation: maybe_at(n, at + 1),
+        azimuth: maybe_at(n, at + 1 + 2),
+        signal: maybe_at(n, at + 1 + 2 + 2),
     }
 }

@@ -6,7 +6,8 @@ use mathlib.Core.Bool.{false, true}
 use native.Mathlib.Omega.{arith}
 use borrow.Author.Tests.{le-ltb, lt-ltb}
 use lib.Dec.{ltb}
-use lib.ListN.{drop, getD, length, length-append}
+use lib.IntN.{ℤ}
+use lib.ListN.{drop, length, length-append}
 use Rattle.address.specs.declared.Talker.{Talker}
 use Rattle.address.specs.declared.Talker.the-variants as T
 use Rattle.frame.specs.declared.Written.{Written}
@@ -14,12 +15,16 @@ use Rattle.frame.specs.Written.{refused}
 use Rattle.sky.specs.declared.Table.{Table}
 use Rattle.sky.specs.Table.{WritesGroup}
 use Rattle.slots.specs.Slots.{laid, talkerNumber, talkerOf}
-use Rattle.skynumbers.specs.Numbers.{skyNumbers, tableAt}
-use Rattle.skynumbers.proofs.Laying.{laid-is, sky-length}
+use Rattle.slots.specs.Layout.{whole}
+use Rattle.slots.proofs.Fitting.{whole-back}
+use Rattle.slots.proofs.Laying.{laid-is}
+use Rattle.slots.proofs.Values.{talker-held}
+use Rattle.skynumbers.specs.Numbers.{skyNumbers, tableAt, tableLayout}
+use Rattle.skynumbers.proofs.Laying.{sky-long}
 use Rattle.skynumbers.proofs.Back.{laid-back}
 use Rattle.host.specs.Group.{groupPut, Put, tablePut}
 
-module _ (n out : List ℕ) where
+module _ (n : List ℤ) (out : List ℕ) where
   abbrev Puts : Written → List ℕ → Type 0
   Puts w left = (w ≡ groupPut n out .answer) × (left ≡ groupPut n out .out)
 
@@ -27,12 +32,12 @@ module _ (n out : List ℕ) where
   unfolding groupPut
   short h q = let e = lt-ltb (length n) 254 h in (q ∙ rw e, rw e)
 
-  module _ (h : 254 ≤ length n) {k : ℕ} (at : k ≡ getD n 0 0) where
+  module _ (h : 254 ≤ length n) {k : ℕ} (at : k ≡ whole .at n 0) where
     pub unknown : 4 < k → {w : Written} → w ≡ refused 3 0 0 → Puts w out
     unfolding groupPut
     unknown i q =
         let e = le-ltb (length n) 254 h in
-        let f : ltb 4 (getD n 0 0) ≡ true = ap (ltb 4) (sym at) ∙ lt-ltb 4 k i in
+        let f : ltb 4 (whole .at n 0) ≡ true = ap (ltb 4) (sym at) ∙ lt-ltb 4 k i in
         (q ∙ rw (e, f), rw (e, f))
 
     module _ (i : k ≤ 4) {t : Talker} (p : t ≡ talkerOf k) {r : Table} (q : r ≡ tableAt n) where
@@ -40,7 +45,7 @@ module _ (n out : List ℕ) where
       unfolding groupPut
       put =
           let e = le-ltb (length n) 254 h in
-          let f : ltb 4 (getD n 0 0) ≡ false = ap (ltb 4) (sym at) ∙ le-ltb 4 k i in
+          let f : ltb 4 (whole .at n 0) ≡ false = ap (ltb 4) (sym at) ∙ le-ltb 4 k i in
           rw (p, q, at, e, f)
 
       pub table : {w : Written} {left : List ℕ} → WritesGroup t r out w left → Puts w left
@@ -53,22 +58,22 @@ known T.Ga = omega arith
 known T.Gq = omega arith
 known T.Gn = omega arith
 
-module _ (t : Talker) (r : Table) (full : length (r .entries) ≡ 36) (numbers : List ℕ) (h : 254 ≤ length numbers) where
-  long : length (skyNumbers t r) ≡ 254
-  long = sky-length t r full
+module _ (t : Talker) (r : Table) (full : length (r .entries) ≡ 36) (held : tableLayout .held r ≡ true) where
+  module _ (numbers : List ℤ) (h : 254 ≤ length numbers) where
+    long : length (skyNumbers t r) ≡ 254
+    long = sky-long t r full
 
-  stands : laid (skyNumbers t r) numbers ≡ skyNumbers t r ++ drop (length (skyNumbers t r)) numbers
-  stands = laid-is (skyNumbers t r) numbers (omega (arith, long, h))
+    stands : laid (skyNumbers t r) numbers ≡ skyNumbers t r ++ drop (length (skyNumbers t r)) numbers
+    stands = laid-is (skyNumbers t r) numbers (omega (arith, long, h))
 
-  enough : 254 ≤ length (laid (skyNumbers t r) numbers)
-  enough = rw stands (omega (arith, long, length-append (skyNumbers t r) (drop (length (skyNumbers t r)) numbers)))
+    enough : 254 ≤ length (laid (skyNumbers t r) numbers)
+    enough = rw stands (omega (arith, long, length-append (skyNumbers t r) (drop (length (skyNumbers t r)) numbers)))
 
-  first : getD (skyNumbers t r ++ drop (length (skyNumbers t r)) numbers) 0 0 ≡ talkerNumber t
-  unfolding skyNumbers
-  first = refl
+    first : whole .at (laid (skyNumbers t r) numbers) 0 ≡ talkerNumber t
+    first = ap (λ (l : List ℤ). whole .at l 0) stands ∙ whole-back (talkerNumber t) (talker-held t)
 
-  pub put-back : (out : List ℕ) → groupPut (laid (skyNumbers t r) numbers) out ≡ tablePut t r out
-  put-back out =
-      let back = laid-back t r full numbers h in
-      let few : getD (laid (skyNumbers t r) numbers) 0 0 ≤ 4 = rw (stands, first) (known t) in
-      sym (put (laid (skyNumbers t r) numbers) out enough refl few (sym (back .0)) (sym (back .1)))
+    pub put-back : (out : List ℕ) → groupPut (laid (skyNumbers t r) numbers) out ≡ tablePut t r out
+    put-back out =
+        let back = laid-back t r full held numbers h in
+        let few : whole .at (laid (skyNumbers t r) numbers) 0 ≤ 4 = omega (arith, first, known t) in
+        sym (put (laid (skyNumbers t r) numbers) out enough refl few (sym (back .0)) (sym (back .1)))

@@ -10,7 +10,7 @@ ghost use Rattle.host.specs.Command.{countsAt, startNo, stepped};
 // Stores the settings at start as eleven numbers at the start of `settings`, and returns 0; or 8 where that is too
 // short, and then `settings` is left.
 #[no_mangle]
-pub extern "C" fn castanwel_start(settings: &mut [u32]) -> u8
+pub extern "C" fn castanwel_start(settings: &mut [i64]) -> u8
     ensures { λ r. ⌜ r ≡ startNo (now (settings .entry)) ⌝ }
     ensures { λ _. ⌜ now (settings .exit) ≡ laid (settingNumbers atStart) (now (settings .entry)) ⌝ }
 {
@@ -21,13 +21,13 @@ pub extern "C" fn castanwel_start(settings: &mut [u32]) -> u8
 }
 
 // Carries out the command in `line` on the settings that eleven numbers say, and stores the settings after it
-// there. Refused: 5 with line 0 where there are fewer; then as `receiver::step` does.
-fn step(settings: &mut [u32], arrival: u32, line: &[u8], out: &mut [u8]) -> Written
+// there. Refused: 5 with line 0 where there are fewer or the GPS mask does not fit; then as `receiver::step` does.
+fn step(settings: &mut [i64], arrival: u32, line: &[u8], out: &mut [u8]) -> Written
     ensures { λ w. ⌜ w ≡ stepped (now (settings .entry)) arrival (now (line .entry)) (now (out .entry)) .answer ⌝ }
     ensures { λ _. ⌜ now (settings .exit) ≡ stepped (now (settings .entry)) arrival (now (line .entry)) (now (out .entry)) .numbers ⌝ }
     ensures { λ _. ⌜ now (out .exit) ≡ stepped (now (settings .entry)) arrival (now (line .entry)) (now (out .entry)) .out ⌝ }
 {
-    if settings.len() < 11 {
+    if !settingnumbers::are_said(settings) {
         return frame::refuse(5, 0, 0);
     }
     let done = receiver::step(settingnumbers::at(settings), arrival, line, out);
@@ -44,7 +44,7 @@ fn step(settings: &mut [u32], arrival: u32, line: &[u8], out: &mut [u8]) -> Writ
 // `at_line` and `field` to those of the refusal; each to 0 where there is none. A refusal leaves `settings` and `out`.
 #[no_mangle]
 pub extern "C" fn castanwel_step(
-    settings: &mut [u32],
+    settings: &mut [i64],
     arrival: u32,
     line: &[u8],
     out: &mut [u8],
@@ -67,12 +67,12 @@ pub extern "C" fn castanwel_step(
     written.no
 }
 
-// How many satellites the settings allow that eleven numbers say. Refused: 5 where there are fewer or where a setting
-// is out of its range.
-fn counts(settings: &[u32]) -> Counts
+// How many satellites the settings allow that eleven numbers say. Refused: 5 where there are fewer, where the GPS mask
+// does not fit, or where a setting is out of its range.
+fn counts(settings: &[i64]) -> Counts
     ensures { λ c. ⌜ c ≡ countsAt (now (settings .entry)) ⌝ }
 {
-    if settings.len() < 11 {
+    if !settingnumbers::are_said(settings) {
         return Counts {
             no: 5,
             line: 0,
@@ -87,7 +87,7 @@ fn counts(settings: &[u32]) -> Counts
 // Sets `gps` and `glonass` to how many satellites of each the settings allow, and returns 0; or 5 where the settings
 // are not eleven numbers in range, and then both are set to 0.
 #[no_mangle]
-pub extern "C" fn castanwel_counts(settings: &[u32], gps: &mut u32, glonass: &mut u32) -> u8
+pub extern "C" fn castanwel_counts(settings: &[i64], gps: &mut u32, glonass: &mut u32) -> u8
     ensures { λ r. ⌜ r ≡ countsAt (now (settings .entry)) .no ⌝ }
     ensures { λ _. ⌜ now (gps .exit) ≡ countsAt (now (settings .entry)) .gps ⌝ }
     ensures { λ _. ⌜ now (glonass .exit) ≡ countsAt (now (settings .entry)) .glonass ⌝ }

@@ -11,7 +11,7 @@ ghost use Rattle.host.specs.Group.{groupPut, handed};
 #[no_mangle]
 pub extern "C" fn castanwel_read_group(
     s: &[u8],
-    numbers: &mut [u32],
+    numbers: &mut [i64],
     line: &mut usize,
     field: &mut usize,
 ) -> u8
@@ -36,14 +36,14 @@ pub extern "C" fn castanwel_read_group(
 
 // Writes the group that 254 numbers say. Refused: 5 where there are fewer, then 3 for a talker's number over 4,
 // both with line 0; then as `sky_write::write` does.
-fn write_numbers(numbers: &[u32], out: &mut [u8]) -> Written
+fn write_numbers(numbers: &[i64], out: &mut [u8]) -> Written
     ensures { λ w. ⌜ w ≡ groupPut (now (numbers .entry)) (now (out .entry)) .answer ⌝ }
     ensures { λ _. ⌜ now (out .exit) ≡ groupPut (now (numbers .entry)) (now (out .entry)) .out ⌝ }
 {
     if numbers.len() < 254 {
         return frame::refuse(5, 0, 0);
     }
-    let n = slots::at(numbers, 0);
+    let n = slots::whole_at(numbers, 0);
     if 4 < n {
         return frame::refuse(3, 0, 0);
     }
@@ -55,7 +55,7 @@ fn write_numbers(numbers: &[u32], out: &mut [u8]) -> Written
 // there is none. A refusal leaves `out`.
 #[no_mangle]
 pub extern "C" fn castanwel_write_group(
-    numbers: &[u32],
+    numbers: &[i64],
     out: &mut [u8],
     length: &mut usize,
     line: &mut usize,

@@ -10,7 +10,7 @@ ghost use Rattle.hostrecords.specs.FromHost.{writtenAs, leftAs};
 #[no_mangle]
 pub extern "C" fn castanwel_read(
     line: &[u8],
-    numbers: &mut [u32],
+    numbers: &mut [i64],
     kind: &mut u32,
     field: &mut usize,
 ) -> u8
@@ -26,12 +26,13 @@ pub extern "C" fn castanwel_read(
 }
 
 // Writes the line of the record of a kind that `numbers` say into `out`, sets `length` to its length and
-// answers 0. Else `length` is 0, `out` is left, and the answer is the refusal with its `line` and `field`: 3
-// for what is no kind or no talker and 5 for too few numbers, both on line 0; or as the kind's writer does.
+// answers 0. Else `length` is 0, `out` is left, and the answer is the refusal with its `line` and `field`: 5 for
+// too few numbers and 3 for what is no kind or no talker, both on line 0; 5 on line 1 in field 1 for a GPS mask
+// that 32 bits do not hold; or as the kind's writer does.
 #[no_mangle]
 pub extern "C" fn castanwel_write(
     kind: u32,
-    numbers: &[u32],
+    numbers: &[i64],
     out: &mut [u8],
     length: &mut usize,
     line: &mut usize,

@@ -4,6 +4,7 @@ use mathlib.Core.Path.{_≡_, _∙_, ap}
 use mathlib.Core.Bool.{Bool}
 use mathlib.Core.List.{List}
 use lib.Dec.{leb}
+use lib.IntN.{ℤ}
 use lib.ListN.{length}
 use Rattle.records.specs.declared.Reading.{Reading}
 use Rattle.reading.specs.declared.Refusal.{Refusal}
@@ -13,7 +14,7 @@ use Rattle.tonumbers.specs.Layout.{numbersOf, kindOf}
 use Rattle.hostrecords.specs.declared.Told.{Told}
 use Rattle.hostrecords.specs.ToHost.{toldOf, toldFor, laidFor}
 
-module _ (r q : Reading) (e : r ≡ q) (numbers : List ℕ) {refusal : Refusal} {room : Bool} {kind : ℕ} {t : Told} {left : List ℕ} where
+module _ (r q : Reading) (e : r ≡ q) (numbers : List ℤ) {refusal : Refusal} {room : Bool} {kind : ℕ} {t : Told} {left : List ℤ} where
   pub told-is : (room ≡ leb (length (numbersOf r)) (length numbers)) × (left ≡ laid (numbersOf r) numbers)
       → refusal ≡ refusalOf (r .sentence) → kind ≡ kindOf (r .sentence) → t ≡ toldOf refusal room kind
       → (t ≡ toldFor q numbers) × (left ≡ laidFor q numbers)

@@ -1,8 +1,14 @@
 -- What a host writes: the record of a kind that its numbers say, by the writer of that kind. What is no record is refused on line 0.
 use Prim.Native.Nat.{ℕ}
+use mathlib.Core.Bool.{_&&_, Bool, false, not, true}
 use mathlib.Core.List.{[], List}
-use lib.Dec.{eqb}
+use lib.Dec.{eqb, leb}
+use lib.IntN.{ℤ}
 use lib.ListN.{length}
+use Rattle.address.specs.declared.Address.{Address}
+use Rattle.address.specs.declared.Address.the-variants.{Maker, Standard, Unknown}
+use Rattle.address.specs.declared.Pir.{Pir}
+use Rattle.address.specs.declared.Pir.the-variants as P
 use Rattle.records.specs.declared.Gsa.{Gsa}
 use Rattle.records.specs.declared.Gsv.{Gsv}
 use Rattle.records.specs.declared.Reading.{Reading}
@@ -10,7 +16,7 @@ use Rattle.records.specs.declared.Sentence.{Sentence}
 use Rattle.records.specs.declared.Sentence.the-variants as S
 use Rattle.frame.specs.declared.Written.{Written}
 use Rattle.digits.specs.Pick.{pick}
-use Rattle.frame.specs.Written.{faultAt, leftOf, refused, writtenOf}
+use Rattle.frame.specs.Written.{faultAt, leftOf, refused, Writes, writtenOf}
 use Rattle.kind_gga.specs.Row.{ggaBody, ggaWrong}
 use Rattle.kind_gll.specs.Row.{gllBody, gllWrong}
 use Rattle.kind_gsa.specs.Row.{gsaBody, gsaWrong}
@@ -26,7 +32,10 @@ use Rattle.kind_pir_port.specs.Reply.{pirpaBody, pirpaWrong}
 use Rattle.kind_pir_datum.specs.Reply.{pirtaBody, pirtaWrong}
 use Rattle.kind_pir_masks.specs.Reply.{pirsaBody, pirsaWrong}
 use Rattle.kind_pir_code.specs.Reply.{pireaBody, pireaWrong}
-use Rattle.fromnumbers.specs.Back.{recordAt}
+use Rattle.slots.specs.Slots.{isThere, isWhole}
+use Rattle.slots.specs.Layout.{numberAt, whole}
+use Rattle.tonumbers.specs.Layout.{countOf}
+use Rattle.fromnumbers.specs.Back.{addressAt, recordAt}
 
 -- A refusal is handed back on line 0; one without a number is 3, as of an unknown kind.
 unfoldable pub refusedBy : ℕ → ℕ → Written
@@ -75,9 +84,36 @@ recordFault r = sentenceFault (r .sentence) (r .gsa) (r .gsv)
 abbrev pub recordBody : Reading → List ℕ
 recordBody r = sentenceBody (r .sentence) (r .gsa) (r .gsv)
 
--- What comes of numbers of a kind that are written into an output, and the output after it.
-abbrev pub writtenAs : ℕ → List ℕ → List ℕ → Written
-writtenAs kind numbers out = writtenOf (recordFault (recordAt kind numbers)) (recordBody (recordAt kind numbers)) (length out)
+-- The GPS mask stands in the first field of PIRSR and of PIRSA, and every value of 32 bits is one. So a number for it that they do not hold
+-- is looked for before all else of the record, and is 5 there.
+abbrev pub maskOver : Pir → List ℤ → Bool
+maskOver P.Pr n = false
+maskOver P.Tr n = false
+maskOver P.Sr n = isThere (numberAt n 0) && not (isWhole (numberAt n 1))
+maskOver P.Er n = false
+maskOver P.Pa n = false
+maskOver P.Ta n = false
+maskOver P.Sa n = not (isWhole (numberAt n 0))
+maskOver P.Ea n = false
 
-abbrev pub leftAs : ℕ → List ℕ → List ℕ → List ℕ
-leftAs kind numbers out = leftOf (recordFault (recordAt kind numbers)) (recordBody (recordAt kind numbers)) out
+abbrev pub overIn : Address → List ℤ → Bool
+overIn (Standard t k) n = false
+overIn (Maker k) n = maskOver k n
+overIn Unknown n = false
+
+unfoldable pub gpsOver : ℕ → List ℤ → Bool
+gpsOver kind n = leb (countOf kind) (length n) && overIn (addressAt kind (whole .at n 0)) n
+
+abbrev pub numbersFault : Bool → Reading → Written
+numbersFault over r = pick over (refused 5 1 1) (recordFault r)
+
+-- What a writer answers and leaves of a record that numbers say.
+abbrev pub WritesRecord : Bool → Reading → List ℕ → Written → List ℕ → Type 0
+WritesRecord over r = Writes (numbersFault over r) (recordBody r)
+
+-- What comes of numbers of a kind that are written into an output, and the output after it.
+abbrev pub writtenAs : ℕ → List ℤ → List ℕ → Written
+writtenAs kind n out = writtenOf (numbersFault (gpsOver kind n) (recordAt kind n)) (recordBody (recordAt kind n)) (length out)
+
+abbrev pub leftAs : ℕ → List ℤ → List ℕ → List ℕ
+leftAs kind n out = leftOf (numbersFault (gpsOver kind n) (recordAt kind n)) (recordBody (recordAt kind n)) out

@@ -38,7 +38,7 @@ fn told_of(refusal: Refusal, room: bool, kind: u32) -> Told
 
 // Reads `line` and stores the numbers of its record at the start of `numbers`. Refused: as the line is, or 8
 // where `numbers` is too short; then `numbers` is left.
-pub fn read(line: &[u8], numbers: &mut [u32]) -> Told
+pub fn read(line: &[u8], numbers: &mut [i64]) -> Told
     ensures { λ r. ⌜ r ≡ toldFor (readLine (now (line .entry))) (now (numbers .entry)) ⌝ }
     ensures { λ _. ⌜ now (numbers .exit) ≡ laidFor (readLine (now (line .entry))) (now (numbers .entry)) ⌝ }
 {
@@ -50,16 +50,17 @@ pub fn read(line: &[u8], numbers: &mut [u32]) -> Told
     told_of(refusal, room, kind)
 }
 
-// Writes the line of the record of a kind that `numbers` say into `out`. Refused, and then `out` is left: 3
-// for what is no kind or no talker and 5 for too few numbers, both on line 0; or as the kind's writer does.
-pub fn write(kind: u32, numbers: &[u32], out: &mut [u8]) -> Written
+// Writes the line of the record of a kind that `numbers` say into `out`. Refused, and then `out` is left: 5 for
+// too few numbers and 3 for what is no kind or no talker, both on line 0; 5 on line 1 in field 1 for a GPS mask
+// that 32 bits do not hold; or as the kind's writer does.
+pub fn write(kind: u32, numbers: &[i64], out: &mut [u8]) -> Written
     ensures { λ w. ⌜ w ≡ writtenAs kind (now (numbers .entry)) (now (out .entry)) ⌝ }
     ensures { λ _. ⌜ now (out .exit) ≡ leftAs kind (now (numbers .entry)) (now (out .entry)) ⌝ }
 {
     if numbers.len() < fromnumbers::count_of(kind) {
         return frame::refuse(5, 0, 0);
     }
-    let address = fromnumbers::address_at(kind, slots::at(numbers, 0));
+    let address = fromnumbers::address_at(kind, slots::whole_at(numbers, 0));
     match address {
         Address::Standard(t, k) => writing::standard(out, t, k, numbers),
         Address::Maker(k) => writing::maker(out, k, numbers),

@@ -3,13 +3,13 @@ use address::Kind;
 use address::Pir;
 use address::Talker;
 use frame::Written;
-ghost use Rattle.frame.specs.Written.{Writes};
+ghost use mathlib.Core.Bool.{false};
+ghost use mathlib.Core.Path.{_≡_};
 ghost use Rattle.fromnumbers.specs.Back.{makerAt, standardAt};
-ghost use Rattle.hostrecords.specs.FromHost.{recordBody, recordFault};
+ghost use Rattle.hostrecords.specs.FromHost.{maskOver, WritesRecord};
 
-pub fn standard(out: &mut [u8], t: Talker, k: Kind, n: &[u32]) -> Written
-    ensures { λ w. ⌜ Writes (recordFault (standardAt t k (now (n .entry)))) (recordBody (standardAt t k (now (n .entry))))
-        (now (out .entry)) w (now (out .exit)) ⌝ }
+pub fn standard(out: &mut [u8], t: Talker, k: Kind, n: &[i64]) -> Written
+    ensures { λ w. ⌜ WritesRecord false (standardAt t k (now (n .entry))) (now (out .entry)) w (now (out .exit)) ⌝ }
 {
     match k {
         Kind::Gga => kind_gga::write(out, t, fromnumbers::nav::gga(n)),
@@ -22,10 +22,28 @@ pub fn standard(out: &mut [u8], t: Talker, k: Kind, n: &[u32]) -> Written
     }
 }
 
-pub fn maker(out: &mut [u8], k: Pir, n: &[u32]) -> Written
-    ensures { λ w. ⌜ Writes (recordFault (makerAt k (now (n .entry)))) (recordBody (makerAt k (now (n .entry)))) (now (out .entry)) w
-        (now (out .exit)) ⌝ }
+// Whether a number for a GPS mask is one that 32 bits do not hold.
+fn over(k: Pir, n: &[i64]) -> bool
+    ensures { λ r. ⌜ r ≡ maskOver k (now (n .entry)) ⌝ }
 {
+    match k {
+        Pir::Pr => false,
+        Pir::Tr => false,
+        Pir::Sr => slots::there_at(n, 0) & !slots::is_whole_at(n, 1),
+        Pir::Er => false,
+        Pir::Pa => false,
+        Pir::Ta => false,
+        Pir::Sa => !slots::is_whole_at(n, 0),
+        Pir::Ea => false,
+    }
+}
+
+pub fn maker(out: &mut [u8], k: Pir, n: &[i64]) -> Written
+    ensures { λ w. ⌜ WritesRecord (maskOver k (now (n .entry))) (makerAt k (now (n .entry))) (now (out .entry)) w (now (out .exit)) ⌝ }
+{
+    if over(k, n) {
+        return frame::refuse(5, 1, 1);
+    }
     match k {
         Pir::Pr => kind_pir_port::command::write(out, fromnumbers::com::pirpr(n)),
         Pir::Tr => kind_pir_datum::command::write(out, fromnumbers::com::pirtr(n)),

@@ -27,8 +27,9 @@ fn list_line(out: &mut [u8], place: usize, number: u64, line: &[u8], dumps: bool
     ensures { λ r. ⌜ Puts (held place (now (out .entry))) (rowText number (now (line .entry)) (readLine (now (line .entry))) dumps)
         (held r (now (out .exit))) ⌝ }
 {
-    let reading = reading::read_line(line);
-    rows::put_row(out, place, number, line, reading, dumps)
+    let mut numbers = [0i64; 33];
+    let told = hostrecords::read(line, &mut numbers);
+    rows::put_row(out, place, number, line, told, &numbers, dumps)
 }
 
 // Writes a row for each line of `s`, by way of `out`, which holds many rows.

@@ -6,11 +6,10 @@ use mathlib.Core.Bool.{Bool, cond}
 use lib.Dec.{eqb}
 use lib.IntN.{natAbs, pos, ℤ}
 use lib.Signed.{ltZ}
-use mir.Syntax.{w32}
-use mir.Val.{toZ}
 use Rattle.digits.specs.Ascii.{ascii}
 use Rattle.digits.specs.Decimal.{printFixed}
 use Rattle.digits.specs.Plain.{numberText}
+use Rattle.slots.specs.Layout.{signed, whole}
 use Rattle.text.specs.Numbers.{decimalText}
 
 -- The one text or the other.
@@ -65,16 +64,15 @@ abbrev pub is : Char → ℕ → Bool
 is letter f = eqb f (code letter)
 
 -- Signed values: a height, a variation and a zone.
-unfoldable pub signedText : ℕ → ℕ → List ℕ
-signedText f v =
-    cond (is "h" f) (heightWords (toZ w32 v)) (cond (is "v" f) (variationWords (toZ w32 v)) (cond (is "z" f) (zoneWords (toZ w32 v)) []))
+unfoldable pub signedText : ℕ → ℤ → List ℕ
+signedText f z = cond (is "h" f) (heightWords z) (cond (is "v" f) (variationWords z) (cond (is "z" f) (zoneWords z) []))
 
--- A whole number, a number in thousandths, a time, a date of day u, month v and year w, a position of latitude u and longitude v, or a
--- signed value; nothing for a letter that is no form.
-unfoldable pub measureText : ℕ → ℕ → ℕ → ℕ → List ℕ
-measureText f u v w =
-    cond (is "n" f) (decimalText u)
-    (cond (is "k" f) (numberText u)
-    (cond (is "t" f) (clockWords u)
-    (cond (is "d" f) (dateWords u v w)
-    (cond (is "p" f) (placeWords (toZ w32 u) (toZ w32 v)) (signedText f u)))))
+-- The value that stands first in the numbers: a whole number, a number in thousandths, a time, a date of day, month and year, a position of
+-- latitude and longitude, or a signed value; nothing for a letter that is no form.
+unfoldable pub measureText : ℕ → List ℤ → List ℕ
+measureText f ns =
+    cond (is "n" f) (decimalText (whole .at ns 0))
+    (cond (is "k" f) (numberText (whole .at ns 0))
+    (cond (is "t" f) (clockWords (whole .at ns 0))
+    (cond (is "d" f) (dateWords (whole .at ns 0) (whole .at ns 1) (whole .at ns 2))
+    (cond (is "p" f) (placeWords (signed .at ns 0) (signed .at ns 1)) (signedText f (signed .at ns 0))))))

@@ -1,28 +1,11 @@
-// The values of a record in words. A signed value comes as its 32 bits. Each function writes into a lent buffer
-// from the place `at` on, as far as there is room, leaves all other bytes, and answers the next place.
+// The values of a record in words. Each function writes into a lent buffer from the place `at` on, as far as there
+// is room, leaves all other bytes, and answers the next place.
 ghost use mathlib.Core.List.{_∷_};
 ghost use mathlib.Core.Path.{_≡_};
-ghost use lib.IntN.{natAbs};
-ghost use mir.Syntax.{w32};
-ghost use mir.Val.{toZ};
 ghost use Rattle.digits.specs.Decimal.{printFixed};
 ghost use Rattle.put.specs.Wrote.{held, Puts};
-ghost use Rattle.phrases.specs.Phrases.{angleWords, clockWords, counted, dateWords, either, heightWords, hoursWords, isMinus};
-ghost use Rattle.phrases.specs.Phrases.{measureText, placeWords, signedText, variationWords, zoneWords};
-
-// A signed value without its sign.
-fn size(n: u32) -> u32
-    ensures { λ r. ⌜ r ≡ natAbs (toZ w32 n) ⌝ }
-{
-    digits::sign::size(slots::signed(n))
-}
-
-// Whether a signed value is less than zero.
-fn is_minus(n: u32) -> bool
-    ensures { λ r. ⌜ r ≡ isMinus (toZ w32 n) ⌝ }
-{
-    slots::signed(n) < 0
-}
+ghost use Rattle.phrases.specs.Phrases.{angleWords, clockWords, counted, dateWords, either, heightWords, hoursWords, measureText};
+ghost use Rattle.phrases.specs.Phrases.{placeWords, signedText, variationWords, zoneWords};
 
 // The one text or the other.
 fn pick<'a>(first: bool, s: &'a [u8], t: &'a [u8]) -> &'a [u8]
@@ -80,11 +63,11 @@ fn put_hours(out: &mut [u8], at: usize, n: u32) -> usize
 }
 
 // `minus 13 hours 59 minutes`
-fn put_zone(out: &mut [u8], at: usize, n: u32) -> usize
-    ensures { λ r. ⌜ Puts (held at (now (out .entry))) (zoneWords (toZ w32 n)) (held r (now (out .exit))) ⌝ }
+fn put_zone(out: &mut [u8], at: usize, z: i32) -> usize
+    ensures { λ r. ⌜ Puts (held at (now (out .entry))) (zoneWords z) (held r (now (out .exit))) ⌝ }
 {
-    let minutes = size(n);
-    let a0 = put::put_bytes(out, at, pick(is_minus(n), b"minus ", b""));
+    let minutes = digits::sign::size(z);
+    let a0 = put::put_bytes(out, at, pick(z < 0, b"minus ", b""));
     let a1 = put_hours(out, a0, minutes / 60);
     put_counted(out, a1, minutes % 60, b" minute", b" minutes")
 }
@@ -100,64 +83,57 @@ fn put_angle(out: &mut [u8], at: usize, v: u32) -> usize
 }
 
 // `55 degrees 50.6111 minutes north, 37 degrees 32.2534 minutes east`
-fn put_place(out: &mut [u8], at: usize, lat: u32, lon: u32) -> usize
-    ensures { λ r. ⌜ Puts (held at (now (out .entry))) (placeWords (toZ w32 lat) (toZ w32 lon)) (held r (now (out .exit))) ⌝ }
+fn put_place(out: &mut [u8], at: usize, lat: i32, lon: i32) -> usize
+    ensures { λ r. ⌜ Puts (held at (now (out .entry))) (placeWords lat lon) (held r (now (out .exit))) ⌝ }
 {
-    let a0 = put_angle(out, at, size(lat));
+    let a0 = put_angle(out, at, digits::sign::size(lat));
     let a1 = put::put_bytes(
         out,
         a0,
-        pick(is_minus(lat), b" minutes south, ", b" minutes north, "),
+        pick(lat < 0, b" minutes south, ", b" minutes north, "),
     );
-    let a2 = put_angle(out, a1, size(lon));
-    put::put_bytes(
-        out,
-        a2,
-        pick(is_minus(lon), b" minutes west", b" minutes east"),
-    )
+    let a2 = put_angle(out, a1, digits::sign::size(lon));
+    put::put_bytes(out, a2, pick(lon < 0, b" minutes west", b" minutes east"))
 }
 
 // `-12.5`
-fn put_height(out: &mut [u8], at: usize, n: u32) -> usize
-    ensures { λ r. ⌜ Puts (held at (now (out .entry))) (heightWords (toZ w32 n)) (held r (now (out .exit))) ⌝ }
+fn put_height(out: &mut [u8], at: usize, z: i32) -> usize
+    ensures { λ r. ⌜ Puts (held at (now (out .entry))) (heightWords z) (held r (now (out .exit))) ⌝ }
 {
-    let a = put::put_bytes(out, at, pick(is_minus(n), b"-", b""));
-    put::put_number(out, a, size(n))
+    let a = put::put_bytes(out, at, pick(z < 0, b"-", b""));
+    put::put_number(out, a, digits::sign::size(z))
 }
 
 // `5.2 degrees west`
-fn put_variation(out: &mut [u8], at: usize, n: u32) -> usize
-    ensures { λ r. ⌜ Puts (held at (now (out .entry))) (variationWords (toZ w32 n)) (held r (now (out .exit))) ⌝ }
+fn put_variation(out: &mut [u8], at: usize, z: i32) -> usize
+    ensures { λ r. ⌜ Puts (held at (now (out .entry))) (variationWords z) (held r (now (out .exit))) ⌝ }
 {
-    let a = put::put_number(out, at, size(n));
-    put::put_bytes(
-        out,
-        a,
-        pick(is_minus(n), b" degrees west", b" degrees east"),
-    )
+    let a = put::put_number(out, at, digits::sign::size(z));
+    put::put_bytes(out, a, pick(z < 0, b" degrees west", b" degrees east"))
 }
 
 // A signed value.
-fn put_signed(out: &mut [u8], at: usize, f: u8, v: u32) -> usize
-    ensures { λ r. ⌜ Puts (held at (now (out .entry))) (signedText f v) (held r (now (out .exit))) ⌝ }
+fn put_signed(out: &mut [u8], at: usize, f: u8, z: i32) -> usize
+    ensures { λ r. ⌜ Puts (held at (now (out .entry))) (signedText f z) (held r (now (out .exit))) ⌝ }
 {
     if f == b'h' {
-        return put_height(out, at, v);
+        return put_height(out, at, z);
     }
     if f == b'v' {
-        return put_variation(out, at, v);
+        return put_variation(out, at, z);
     }
     if f == b'z' {
-        return put_zone(out, at, v);
+        return put_zone(out, at, z);
     }
     at
 }
 
-// A value by the letter of its form: of one number, a position of two, or a date of three. A letter that is no
-// form puts nothing.
-pub fn put_measure(out: &mut [u8], at: usize, f: u8, u: u32, v: u32, w: u32) -> usize
-    ensures { λ r. ⌜ Puts (held at (now (out .entry))) (measureText f u v w) (held r (now (out .exit))) ⌝ }
+// The value that stands first in `numbers`, by the letter of its form: of one number, a position of two, or a date of
+// three. A letter that is no form puts nothing.
+pub fn put_measure(out: &mut [u8], at: usize, f: u8, numbers: &[i64]) -> usize
+    ensures { λ r. ⌜ Puts (held at (now (out .entry))) (measureText f (now (numbers .entry))) (held r (now (out .exit))) ⌝ }
 {
+    let u = slots::whole_at(numbers, 0);
     if f == b'n' {
         return text::put_number(out, at, u as u64);
     }
@@ -168,10 +144,14 @@ pub fn put_measure(out: &mut [u8], at: usize, f: u8, u: u32, v: u32, w: u32) -> 
         return put_clock(out, at, u);
     }
     if f == b'd' {
+        let v = slots::whole_at(numbers, 1);
+        let w = slots::whole_at(numbers, 2);
         return put_date(out, at, u, v, w);
     }
+    let z = slots::signed_at(numbers, 0);
     if f == b'p' {
-        return put_place(out, at, u, v);
+        let lon = slots::signed_at(numbers, 1);
+        return put_place(out, at, z, lon);
     }
-    put_signed(out, at, f, u)
+    put_signed(out, at, f, z)
 }

@@ -1,33 +1,50 @@
 -- A row of the listing, by document 01: per found line its number from 1, the address (`-` after refusals 1 to 3), `ok` or the refusal
 -- number and field; lines ended by LF.
 use Prim.Native.Nat.{ℕ}
-use mathlib.Core.List.{List, [], _∷_, _++_}
 use mathlib.Core.Bool.{Bool, true, false, cond, _&&_}
+use mathlib.Core.List.{List, [], _∷_, _++_}
 use lib.Dec.{ltb, eqb}
+use lib.IntN.{ℤ}
 use lib.ListN.{length, take, drop}
 use Rattle.digits.specs.Ascii.{ascii}
-use Rattle.reading.specs.declared.Refusal.{Refusal}
 use Rattle.reading.specs.Lines.{refusalOf}
 use Rattle.records.specs.declared.Reading.{Reading}
-use Rattle.text.specs.Numbers.{decimalText, valueText}
-use Rattle.dump.specs.Record.{recordNumbers}
+use Rattle.tonumbers.specs.Layout.{countOf, kindOf, numbersOf}
+use Rattle.hostrecords.specs.declared.Told.{Told}
+use Rattle.hostrecords.specs.ToHost.{told}
+use Rattle.text.specs.Numbers.{decimalText, intText, valueText}
 
 -- The five bytes after the `$`; none of a line that is shorter, which is refused with 1.
 unfoldable pub fiveBytes : List ℕ → List ℕ
 fiveBytes line = cond (ltb (length line) 6) [] (take 5 (drop 1 line))
 
-unfoldable pub addressText : Refusal → List ℕ → List ℕ
-addressText r line = cond (ltb 0 (r .no) && ltb (r .no) 4) (ascii "-") (fiveBytes line)
+-- By the number of the refusal, 0 where there is none.
+unfoldable pub addressText : ℕ → List ℕ → List ℕ
+addressText n line = cond (ltb 0 n && ltb n 4) (ascii "-") (fiveBytes line)
 
-unfoldable pub answerText : Refusal → List ℕ
-answerText r = cond (eqb (r .no) 0) (ascii "ok") (ascii "refused" ++ valueText (r .no) ++ valueText (r .field))
+unfoldable pub answerText : ℕ → ℕ → List ℕ
+answerText n field = cond (eqb n 0) (ascii "ok") (ascii "refused" ++ valueText n ++ valueText field)
 
--- The numbers of the record, each behind its blank, where they are asked for.
-abbrev pub askedText : Bool → Reading → List ℕ
-askedText true reading = recordNumbers reading
-askedText false reading = []
+-- Numbers, each behind its blank.
+unfoldable pub numbersText : List ℤ → List ℕ
+numbersText [] = []
+numbersText (z ∷ zs) = intText z ++ numbersText zs
 
+-- The numbers of a record of a kind, in the order of docs/LAYOUT.md, but for its talker's, which the address shows.
+unfoldable pub shown : ℕ → List ℤ → List ℤ
+shown kind numbers = drop (cond (ltb kind 8) 1 0) (take (countOf kind) numbers)
+
+abbrev pub askedText : Bool → ℕ → List ℤ → List ℕ
+askedText true kind numbers = numbersText (shown kind numbers)
+askedText false kind numbers = []
+
+-- The row of a line by what is told of it, and by the numbers of its record, where they are asked for.
+abbrev pub toldRow : ℕ → List ℕ → Told → List ℤ → Bool → List ℕ
+toldRow number line t numbers asked =
+    decimalText number ++ (32 ∷ addressText (t .no) line) ++ (32 ∷ answerText (t .no) (t .field))
+    ++ askedText asked (t .kind) numbers ++ (10 ∷ [])
+
+-- The row of a line that came to a reading.
 abbrev pub rowText : ℕ → List ℕ → Reading → Bool → List ℕ
-rowText number line reading asked =
-    decimalText number ++ (32 ∷ addressText (refusalOf (reading .sentence)) line) ++ (32 ∷ answerText (refusalOf (reading .sentence)))
-    ++ askedText asked reading ++ (10 ∷ [])
+rowText number line r asked =
+    toldRow number line (told (refusalOf (r .sentence) .no) (kindOf (r .sentence)) (refusalOf (r .sentence) .field)) (numbersOf r) asked

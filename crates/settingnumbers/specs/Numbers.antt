@@ -1,27 +1,41 @@
--- The settings as eleven numbers: rate, protocol and mask of port 0, the same of port 1, datum, zone by its 32 bits, GPS mask, GLONASS mask
--- and self-test code.
-use Prim.Native.Nat.{ℕ}
-use mathlib.Core.List.{List, [], _∷_}
-use lib.ListN.{getD}
-use mir.Syntax.{w32}
-use mir.Val.{ofZ, toZ}
+-- The settings as eleven numbers: rate, protocol and mask of port 0, the same of port 1, datum, zone, GPS mask, GLONASS mask and self-test
+-- code. Every value of 32 bits is a GPS mask, so a number that they do not hold says no settings.
+use mathlib.Core.Bool.{Bool, _&&_}
+use mathlib.Core.List.{List, []}
+use lib.Dec.{leb}
+use lib.IntN.{ℤ}
+use lib.ListN.{length}
+use Rattle.receiver.specs.declared.Port.{Port}
 use Rattle.receiver.specs.declared.Settings.{Settings}
+use Rattle.slots.specs.Slots.{isWhole}
+use Rattle.slots.specs.Layout.{Layout, numberAt, whole, signed, _then_, shaped}
 
-abbrev pub settingNumbers : Settings → List ℕ
-settingNumbers s =
-    s .first .rate ∷ s .first .protocol ∷ s .first .mask
-    ∷ s .second .rate ∷ s .second .protocol ∷ s .second .mask
-    ∷ s .datum ∷ ofZ w32 (s .zone) ∷ s .gps ∷ s .glonass ∷ s .code ∷ []
+abbrev pub portLayout : Layout Port
+portLayout =
+    shaped (λ v. record { rate = v .0; protocol = v .1 .0; mask = v .1 .1 }) (λ p. (p .rate, (p .protocol, p .mask)))
+    (whole then whole then whole)
 
--- The settings that numbers say; one that is not there is taken as 0.
-abbrev pub settingsAt : List ℕ → Settings
-settingsAt n =
-    record {
-      first = record { rate = getD n 0 0; protocol = getD n 1 0; mask = getD n 2 0 };
-      second = record { rate = getD n 3 0; protocol = getD n 4 0; mask = getD n 5 0 };
-      datum = getD n 6 0;
-      zone = toZ w32 (getD n 7 0);
-      gps = getD n 8 0;
-      glonass = getD n 9 0;
-      code = getD n 10 0;
-    }
+unfoldable pub settingsLayout : Layout Settings
+settingsLayout =
+    shaped
+    (λ v. record {
+      first = v .0;
+      second = v .1 .0;
+      datum = v .1 .1 .0;
+      zone = v .1 .1 .1 .0;
+      gps = v .1 .1 .1 .1 .0;
+      glonass = v .1 .1 .1 .1 .1 .0;
+      code = v .1 .1 .1 .1 .1 .1;
+    })
+    (λ s. (s .first, (s .second, (s .datum, (s .zone, (s .gps, (s .glonass, s .code)))))))
+    (portLayout then portLayout then whole then signed then whole then whole then whole)
+
+abbrev pub settingNumbers : Settings → List ℤ
+settingNumbers s = settingsLayout .numbers s []
+
+-- The settings that numbers say; one that is not there is taken as 0. They say settings where there are eleven and the GPS mask fits.
+abbrev pub settingsAt : List ℤ → Settings
+settingsAt n = settingsLayout .at n 0
+
+unfoldable pub said : List ℤ → Bool
+said n = leb 11 (length n) && isWhole (numberAt n 8)

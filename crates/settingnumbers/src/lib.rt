@@ -5,54 +5,58 @@ ghost use mathlib.Core.Path.{_≡_};
 ghost use lib.Dec.{leb};
 ghost use lib.ListN.{length};
 ghost use Rattle.slots.specs.Slots.{laid};
-ghost use Rattle.settingnumbers.specs.Numbers.{settingNumbers, settingsAt};
+ghost use Rattle.settingnumbers.specs.Numbers.{settingNumbers, settingsAt, said};
 
 // Stores the eleven numbers of settings at the start of `out` and answers whether there was room; where there
 // was none, `out` is left.
-pub fn lay(out: &mut [u32], s: Settings) -> bool
+pub fn lay(out: &mut [i64], s: Settings) -> bool
     ensures { λ r. ⌜ r ≡ leb 11 (length (now (out .entry))) ⌝ }
     ensures { λ _. ⌜ now (out .exit) ≡ laid (settingNumbers s) (now (out .entry)) ⌝ }
 {
-    let one = s.first;
-    let two = s.second;
-    let zone = slots::bits(s.zone);
     let values = [
-        one.rate,
-        one.protocol,
-        one.mask,
-        two.rate,
-        two.protocol,
-        two.mask,
-        s.datum,
-        zone,
-        s.gps,
-        s.glonass,
-        s.code,
+        s.first.rate as i64,
+        s.first.protocol as i64,
+        s.first.mask as i64,
+        s.second.rate as i64,
+        s.second.protocol as i64,
+        s.second.mask as i64,
+        s.datum as i64,
+        s.zone as i64,
+        s.gps as i64,
+        s.glonass as i64,
+        s.code as i64,
     ];
     slots::lay(out, &values)
 }
 
+// Whether numbers say settings: there are eleven, and 32 bits hold the GPS mask.
+pub fn are_said(numbers: &[i64]) -> bool
+    ensures { λ r. ⌜ r ≡ said (now (numbers .entry)) ⌝ }
+{
+    (11 <= numbers.len()) & slots::is_whole_at(numbers, 8)
+}
+
 // The settings that numbers say; one past their end is taken as 0.
-pub fn at(numbers: &[u32]) -> Settings
+pub fn at(numbers: &[i64]) -> Settings
     ensures { λ r. ⌜ r ≡ settingsAt (now (numbers .entry)) ⌝ }
 {
     let first = Port {
-        rate: slots::at(numbers, 0),
-        protocol: slots::at(numbers, 1),
-        mask: slots::at(numbers, 2),
+        rate: slots::whole_at(numbers, 0),
+        protocol: slots::whole_at(numbers, 1),
+        mask: slots::whole_at(numbers, 2),
     };
     let second = Port {
-        rate: slots::at(numbers, 3),
-        protocol: slots::at(numbers, 4),
-        mask: slots::at(numbers, 5),
+        rate: slots::whole_at(numbers, 3),
+        protocol: slots::whole_at(numbers, 4),
+        mask: slots::whole_at(numbers, 5),
     };
     Settings {
         first,
         second,
-        datum: slots::at(numbers, 6),
-        zone: slots::signed(slots::at(numbers, 7)),
-        gps: slots::at(numbers, 8),
-        glonass: slots::at(numbers, 9),
-        code: slots::at(numbers, 10),
+        datum: slots::whole_at(numbers, 6),
+        zone: slots::signed_at(numbers, 7),
+        gps: slots::whole_at(numbers, 8),
+        glonass: slots::whole_at(numbers, 9),
+        code: slots::whole_at(numbers, 10),
     }
 }

@@ -1,70 +1,38 @@
--- The table at the numbers of a table is that table, and so is its talker, whatever follows: by induction on the entries, of which each has
--- its seven numbers in its place.
-use Prim.Native.Nat.{ℕ, _+_, _≤_}
-use mathlib.Core.Path.{_≡_, refl, sym, _∙_, ap}
-use mathlib.Core.Bool.{Bool, true, false}
-use mathlib.Core.List.{List, [], _∷_, _++_}
+-- The table at the numbers of a table that 32 bits hold is that table, and so is its talker, whatever follows: by the laws of its layout.
+use Prim.Native.Nat.{_≤_}
+use mathlib.Core.Path.{_≡_, refl, _∙_, ap}
+use mathlib.Core.Bool.{true}
+use mathlib.Core.List.{List, [], _++_}
 use native.Mathlib.Omega.{arith}
-use lib.ListN.{length, getD, drop}
-use lib.Seq.{getD-drop, drop-drop}
+use lib.IntN.{ℤ}
+use lib.ListN.{length, drop}
 use Rattle.address.specs.declared.Talker.{Talker}
-use Rattle.address.specs.declared.Talker.the-variants as T
-use Rattle.records.specs.declared.Entry.{Entry}
+use Rattle.records.specs.Blank.{blankEntry}
 use Rattle.sky.specs.declared.Table.{Table}
-use Rattle.slots.specs.Slots.{markOf, isThere, laid, talkerNumber, talkerOf}
-use Rattle.skynumbers.specs.Numbers.{entryNumbers, placeNumbers, skyNumbers, entryAt, entriesFrom, tableAt}
-use Rattle.skynumbers.proofs.Laying.{laid-is, sky-length}
+use Rattle.slots.specs.Slots.{laid}
+use Rattle.slots.specs.Layout.{whole, _then_, several, entryLayout, talkerLayout}
+use Rattle.slots.proofs.Arrays.{lawful-several}
+use Rattle.slots.proofs.Laying.{laid-is}
+use Rattle.slots.proofs.Layouts.{LawfulLayout, lawful-whole, lawful-shaped, _⊗_}
+use Rattle.slots.proofs.Values.{lawful-entry, lawful-talker, numbers-back, talker-held}
+use Rattle.tonumbers.specs.Layout.{standard}
+use Rattle.skynumbers.specs.Numbers.{tableLayout, skyNumbers, tableAt}
+use Rattle.skynumbers.proofs.Laying.{sky-long}
 
-mark-back : (b : Bool) → isThere (markOf b) ≡ b
-mark-back true = refl
-mark-back false = refl
+pub lawful-table : LawfulLayout tableLayout
+unfolding tableLayout
+lawful-table =
+    lawful-shaped (λ v. record { count = v .0; entries = v .1 }) (λ r. (r .count, r .entries))
+    (whole then several 36 blankEntry entryLayout) (λ r. refl) (lawful-whole ⊗ lawful-several 36 blankEntry lawful-entry)
 
-pub talker-back : (t : Talker) → talkerOf (talkerNumber t) ≡ t
-talker-back T.Gp = refl
-talker-back T.Gl = refl
-talker-back T.Ga = refl
-talker-back T.Gq = refl
-talker-back T.Gn = refl
+module _ (t : Talker) (r : Table) (full : length (r .entries) ≡ 36) (held : tableLayout .held r ≡ true) where
+  pub back : (rest : List ℤ) → standard tableLayout .at (skyNumbers t r ++ rest) 0 ≡ (t, r)
+  back rest = numbers-back (lawful-talker ⊗ lawful-table) [] (t, r) rest (rw (talker-held t, held))
 
--- The entry whose seven numbers stand from place i on.
-module _ (n : List ℕ) (i : ℕ) (e : Entry) (rest : List ℕ) (h : drop i n ≡ entryNumbers e ++ rest) where
-  at : (j k : ℕ) → i + j ≡ k → getD n k 0 ≡ getD (entryNumbers e ++ rest) j 0
-  at j k q = ap (λ (k : ℕ). getD n k 0) (sym q) ∙ sym (getD-drop i n j 0) ∙ ap (λ (l : List ℕ). getD l j 0) h
-
-  entry-back : entryAt n i ≡ e
-  entry-back =
-      rw (
-        at 0 i (omega arith),
-        at 1 (i + 1) (omega arith),
-        at 2 (i + 1 + 1) (omega arith),
-        at 3 (i + 3) (omega arith),
-        at 4 (i + 3 + 1) (omega arith),
-        at 5 (i + 5) (omega arith),
-        at 6 (i + 5 + 1) (omega arith),
-        mark-back (e .elevation .there),
-        mark-back (e .azimuth .there),
-        mark-back (e .signal .there),
-      )
-
-  rest-back : drop (i + 7) n ≡ rest
-  rest-back = sym (drop-drop 7 i n) ∙ ap (drop 7) h
-
-entries-back : (n : List ℕ) (i : ℕ) (es : List Entry) (rest : List ℕ) → drop i n ≡ placeNumbers es ++ rest
-    → entriesFrom n i (length es) ≡ es
-unfolding placeNumbers entriesFrom
-entries-back n i [] rest h = refl
-entries-back n i (e ∷ es) rest h =
-    ap (λ (x : Entry). x ∷ entriesFrom n (i + 7) (length es)) (entry-back n i e (placeNumbers es ++ rest) h)
-    ∙ ap (λ (l : List Entry). e ∷ l) (entries-back n (i + 7) es rest (rest-back n i e (placeNumbers es ++ rest) h))
-
-module _ (t : Talker) (r : Table) (full : length (r .entries) ≡ 36) where
-  pub back : (rest : List ℕ) → (talkerOf (getD (skyNumbers t r ++ rest) 0 0) ≡ t) × (tableAt (skyNumbers t r ++ rest) ≡ r)
-  unfolding skyNumbers tableAt
-  back rest =
-      let es : entriesFrom (skyNumbers t r ++ rest) 2 36 ≡ r .entries = ap (entriesFrom (skyNumbers t r ++ rest) 2) (sym full)
-      ∙ entries-back (skyNumbers t r ++ rest) 2 (r .entries) rest refl in
-      (talker-back t, rw es)
-
-  pub laid-back : (out : List ℕ) → 254 ≤ length out → (talkerOf (getD (laid (skyNumbers t r) out) 0 0) ≡ t)
-      × (tableAt (laid (skyNumbers t r) out) ≡ r)
-  laid-back out h = rw (laid-is (skyNumbers t r) out (omega (arith, sky-length t r full, h))) (back (drop (length (skyNumbers t r)) out))
+  pub laid-back : (out : List ℤ) → 254 ≤ length out
+      → (talkerLayout .at (laid (skyNumbers t r) out) 0 ≡ t) × (tableAt (laid (skyNumbers t r) out) ≡ r)
+  laid-back out h =
+      let e =
+      ap (λ (n : List ℤ). standard tableLayout .at n 0) (laid-is (skyNumbers t r) out (omega (arith, sky-long t r full, h)))
+      ∙ back (drop (length (skyNumbers t r)) out) in
+      (ap (λ (v : Talker × Table). v .0) e, ap (λ (v : Talker × Table). v .1) e)

@@ -1,1 +1,6 @@
-pub mod Complement
+pub mod Fitting
+pub mod Layouts
+pub mod Arrays
+pub mod Values
+pub mod Laying
+pub mod Rows

@@ -1,15 +1,14 @@
-// Numbers in a lent slice, as values cross to a host: 32 bits each.
+// Numbers in a lent slice, as values cross to a host: 64 bits with a sign, one a value.
 use address::Talker;
 ghost use mathlib.Core.Path.{_≡_};
 ghost use lib.Dec.{leb};
-ghost use lib.ListN.{getD, length};
-ghost use mir.Syntax.{w32};
-ghost use mir.Val.{ofZ, toZ};
-ghost use Rattle.slots.specs.Slots.{isThere, laid, markOf, talkerNumber, talkerOf};
+ghost use lib.IntN.{pos};
+ghost use lib.ListN.{length, getD};
+ghost use Rattle.slots.specs.Slots.{isThere, isMark, isWhole, wholeOf, signedOf, laid, talkerNumber, talkerOf};
 
 // The number at place `i`; 0 past the end.
-pub fn at(numbers: &[u32], i: usize) -> u32
-    ensures { λ r. ⌜ r ≡ getD (now (numbers .entry)) i 0 ⌝ }
+pub fn at(numbers: &[i64], i: usize) -> i64
+    ensures { λ r. ⌜ r ≡ getD (now (numbers .entry)) i (pos 0) ⌝ }
 {
     if i < numbers.len() {
         return numbers[i];
@@ -19,7 +18,7 @@ pub fn at(numbers: &[u32], i: usize) -> u32
 
 // Stores all of `values` at the start of `out` and answers whether there was room; where there was none,
 // `out` is left.
-pub fn lay(out: &mut [u32], values: &[u32]) -> bool
+pub fn lay(out: &mut [i64], values: &[i64]) -> bool
     ensures { λ r. ⌜ r ≡ leb (length (now (values .entry))) (length (now (out .entry))) ⌝ }
     ensures { λ _. ⌜ now (out .exit) ≡ laid (now (values .entry)) (now (out .entry)) ⌝ }
 {
@@ -34,38 +33,80 @@ pub fn lay(out: &mut [u32], values: &[u32]) -> bool
     true
 }
 
-// 1 where a value is there, 0 where it is missing.
-pub fn mark(there: bool) -> u32
-    ensures { λ r. ⌜ r ≡ markOf there ⌝ }
+// Whether a number is the mark of a value that is there: 1.
+fn marked(mark: i64) -> bool
+    ensures { λ r. ⌜ r ≡ isThere mark ⌝ }
 {
-    if there { 1 } else { 0 }
+    mark == 1
 }
 
-// Whether a mark says that a value is there: any number but 0.
-pub fn marked(n: u32) -> bool
-    ensures { λ r. ⌜ r ≡ isThere n ⌝ }
+// Whether a number is a mark: 0 or 1.
+fn is_mark(n: i64) -> bool
+    ensures { λ r. ⌜ r ≡ isMark n ⌝ }
 {
-    n != 0
+    (0 <= n) & (n <= 1)
 }
 
-// A signed value as its 32 bits, in two's complement.
-pub fn bits(v: i32) -> u32
-    ensures { λ r. ⌜ r ≡ ofZ w32 v ⌝ }
+// Whether a value without sign of 32 bits holds a number.
+fn is_whole(n: i64) -> bool
+    ensures { λ r. ⌜ r ≡ isWhole n ⌝ }
 {
-    if v < 0 {
-        return (4294967296 - digits::sign::size(v) as u64) as u32;
+    (0 <= n) & (n <= 4294967295)
+}
+
+// The value without sign that is held of a number: itself, or 4294967295 where it does not fit.
+fn whole(n: i64) -> u32
+    ensures { λ r. ⌜ r ≡ wholeOf n ⌝ }
+{
+    if is_whole(n) {
+        return n as u32;
     }
-    v as u32
+    4294967295
 }
 
-// The signed value that has these 32 bits.
-pub fn signed(n: u32) -> i32
-    ensures { λ r. ⌜ r ≡ toZ w32 n ⌝ }
+// The value with a sign that is held of a number: itself, or the nearest end of 32 bits.
+fn signed(n: i64) -> i32
+    ensures { λ r. ⌜ r ≡ signedOf n ⌝ }
 {
-    if n < 2147483648 {
-        return n as i32;
+    if n < -2147483648 {
+        return -2147483648;
     }
-    -((4294967295 - n) as i32) - 1
+    if 2147483647 < n {
+        return 2147483647;
+    }
+    n as i32
+}
+
+// The same of the number at a place: whether it is the mark of a value that is there, whether it is a mark, whether
+// 32 bits without sign hold it, and the value that is held of it.
+pub fn there_at(numbers: &[i64], i: usize) -> bool
+    ensures { λ r. ⌜ r ≡ isThere (getD (now (numbers .entry)) i (pos 0)) ⌝ }
+{
+    marked(at(numbers, i))
+}
+
+pub fn is_mark_at(numbers: &[i64], i: usize) -> bool
+    ensures { λ r. ⌜ r ≡ isMark (getD (now (numbers .entry)) i (pos 0)) ⌝ }
+{
+    is_mark(at(numbers, i))
+}
+
+pub fn is_whole_at(numbers: &[i64], i: usize) -> bool
+    ensures { λ r. ⌜ r ≡ isWhole (getD (now (numbers .entry)) i (pos 0)) ⌝ }
+{
+    is_whole(at(numbers, i))
+}
+
+pub fn whole_at(numbers: &[i64], i: usize) -> u32
+    ensures { λ r. ⌜ r ≡ wholeOf (getD (now (numbers .entry)) i (pos 0)) ⌝ }
+{
+    whole(at(numbers, i))
+}
+
+pub fn signed_at(numbers: &[i64], i: usize) -> i32
+    ensures { λ r. ⌜ r ≡ signedOf (getD (now (numbers .entry)) i (pos 0)) ⌝ }
+{
+    signed(at(numbers, i))
 }
 
 // The number of a talker, from 0 in the order of document 01.

@@ -1,17 +1,13 @@
--- Records as numbers, as docs/LAYOUT.md lays them out: a value that may be missing is a mark and the value, a position a mark, latitude and
--- longitude, a date a mark, day, month and year. A signed value is its 32 bits. A talker's sentence has the talker's number first.
+-- Records as numbers, as docs/LAYOUT.md lays them out: one layout a kind, in the order of its fields. A talker's sentence has the talker's
+-- number first.
 use Prim.Native.Nat.{_+_, ℕ}
-use mathlib.Core.Bool.{Bool}
 use mathlib.Core.List.{[], _∷_, List}
 use lib.IntN.{ℤ}
 use lib.ListN.{getD}
-use mir.Syntax.{w32}
-use mir.Val.{ofZ}
 use Rattle.address.specs.declared.Talker.{Talker}
 use Rattle.records.specs.declared.CodeTold.{CodeTold}
 use Rattle.records.specs.declared.DatumAsked.{DatumAsked}
 use Rattle.records.specs.declared.DatumTold.{DatumTold}
-use Rattle.records.specs.declared.Entry.{Entry}
 use Rattle.records.specs.declared.Gga.{Gga}
 use Rattle.records.specs.declared.Gll.{Gll}
 use Rattle.records.specs.declared.Gsa.{Gsa}
@@ -26,129 +22,187 @@ use Rattle.records.specs.declared.Sentence.{Sentence}
 use Rattle.records.specs.declared.Sentence.the-variants as S
 use Rattle.records.specs.declared.Vtg.{Vtg}
 use Rattle.records.specs.declared.Zda.{Zda}
-use Rattle.form_date.specs.declared.Date.{Date}
-use Rattle.form_position.specs.declared.Place.{Place}
 use Rattle.form.specs.Values.{noMaybe}
 use Rattle.records.specs.Blank.{blankEntry}
-use Rattle.slots.specs.Slots.{markOf, talkerNumber}
+use Rattle.slots.specs.Layout.{_then_, dateLayout, entryLayout, kmhLayout, knotsLayout, Layout, maybeLayout, nothing, numberLayout}
+use Rattle.slots.specs.Layout.{placeLayout, several, shaped, signed, signedLayout, talkerLayout, whole, zoneLayout}
 
--- A value that may be missing, and a signed one; each followed by the numbers after it.
-abbrev pub maybe : Bool → ℕ → List ℕ → List ℕ
-maybe there value rest = markOf there ∷ value ∷ rest
+unfoldable pub ggaLayout : Layout Gga
+ggaLayout =
+    shaped
+    (λ v. record {
+      time = v .0;
+      place = v .1 .0;
+      quality = v .1 .1 .0;
+      satellites = v .1 .1 .1 .0;
+      hdop = v .1 .1 .1 .1 .0;
+      altitude = v .1 .1 .1 .1 .1 .0;
+      geoid = v .1 .1 .1 .1 .1 .1 .0;
+      age = v .1 .1 .1 .1 .1 .1 .1 .0;
+      station = v .1 .1 .1 .1 .1 .1 .1 .1;
+    })
+    (λ r. (r .time, (r .place, (r .quality, (r .satellites, (r .hdop, (r .altitude, (r .geoid, (r .age, r .station)))))))))
+    (maybeLayout then placeLayout then whole then maybeLayout then numberLayout then signedLayout then signedLayout then numberLayout
+    then maybeLayout)
 
-abbrev pub signed : Bool → ℤ → List ℕ → List ℕ
-signed there value rest = maybe there (ofZ w32 value) rest
+unfoldable pub gllLayout : Layout Gll
+gllLayout =
+    shaped (λ v. record { place = v .0; time = v .1 .0; status = v .1 .1 .0; mode = v .1 .1 .1 })
+    (λ r. (r .place, (r .time, (r .status, r .mode))))
+    (placeLayout then maybeLayout then whole then whole)
 
-abbrev pub place : Place → List ℕ → List ℕ
-place p rest = markOf (p .there) ∷ ofZ w32 (p .lat) ∷ ofZ w32 (p .lon) ∷ rest
+unfoldable pub gsaLayout : Layout Gsa
+gsaLayout =
+    shaped
+    (λ v. record {
+      selection = v .0;
+      fix = v .1 .0;
+      satellites = v .1 .1 .0;
+      pdop = v .1 .1 .1 .0;
+      hdop = v .1 .1 .1 .1 .0;
+      vdop = v .1 .1 .1 .1 .1;
+    })
+    (λ r. (r .selection, (r .fix, (r .satellites, (r .pdop, (r .hdop, r .vdop))))))
+    (whole then whole then several 12 noMaybe maybeLayout then numberLayout then numberLayout then numberLayout)
 
-abbrev pub date : Date → List ℕ → List ℕ
-date d rest = markOf (d .there) ∷ d .day ∷ d .month ∷ d .year ∷ rest
+unfoldable pub gsvLayout : Layout Gsv
+gsvLayout =
+    shaped
+    (λ v. record {
+      lines = v .0;
+      line = v .1 .0;
+      satellites = v .1 .1 .0;
+      count = v .1 .1 .1 .0;
+      entries = v .1 .1 .1 .1;
+    })
+    (λ r. (r .lines, (r .line, (r .satellites, (r .count, r .entries)))))
+    (whole then whole then whole then whole then several 4 blankEntry entryLayout)
 
-abbrev pub ggaNumbers : Talker → Gga → List ℕ
-ggaNumbers t r =
-    talkerNumber t
-    ∷ maybe (r .time .there) (r .time .value)
-    (place (r .place)
-    (r .quality
-    ∷ maybe (r .satellites .there) (r .satellites .value)
-    (maybe (r .hdop .there) (r .hdop .value)
-    (signed (r .altitude .there) (r .altitude .value)
-    (signed (r .geoid .there) (r .geoid .value)
-    (maybe (r .age .there) (r .age .value)
-    (maybe (r .station .there) (r .station .value) [])))))))
+unfoldable pub rmcLayout : Layout Rmc
+rmcLayout =
+    shaped
+    (λ v. record {
+      time = v .0;
+      status = v .1 .0;
+      place = v .1 .1 .0;
+      speed = v .1 .1 .1 .0;
+      course = v .1 .1 .1 .1 .0;
+      date = v .1 .1 .1 .1 .1 .0;
+      variation = v .1 .1 .1 .1 .1 .1 .0;
+      mode = v .1 .1 .1 .1 .1 .1 .1;
+    })
+    (λ r. (r .time, (r .status, (r .place, (r .speed, (r .course, (r .date, (r .variation, r .mode))))))))
+    (maybeLayout then whole then placeLayout then knotsLayout then numberLayout then dateLayout then signedLayout then whole)
 
-abbrev pub gllNumbers : Talker → Gll → List ℕ
-gllNumbers t r = talkerNumber t ∷ place (r .place) (maybe (r .time .there) (r .time .value) (r .status ∷ r .mode ∷ []))
+unfoldable pub vtgLayout : Layout Vtg
+vtgLayout =
+    shaped
+    (λ v. record {
+      course = v .0;
+      magnetic = v .1 .0;
+      knots = v .1 .1 .0;
+      kmh = v .1 .1 .1 .0;
+      mode = v .1 .1 .1 .1;
+    })
+    (λ r. (r .course, (r .magnetic, (r .knots, (r .kmh, r .mode)))))
+    (numberLayout then numberLayout then knotsLayout then kmhLayout then whole)
 
--- The satellite of a GSA in place k, counted from 0.
-abbrev pub satellite : Gsa → ℕ → List ℕ → List ℕ
-satellite r k rest = maybe (getD (r .satellites) k noMaybe .there) (getD (r .satellites) k noMaybe .value) rest
+unfoldable pub zdaLayout : Layout Zda
+zdaLayout =
+    shaped (λ v. record { time = v .0; date = v .1 .0; zone = v .1 .1 }) (λ r. (r .time, (r .date, r .zone)))
+    (maybeLayout then dateLayout then zoneLayout)
 
--- Six of them, from place k on; and the last six, with PDOP, HDOP and VDOP.
-abbrev pub sixFrom : Gsa → ℕ → List ℕ → List ℕ
-sixFrom r k rest = satellite r k
-    (satellite r (k + 1) (satellite r (k + 2) (satellite r (k + 3) (satellite r (k + 4) (satellite r (k + 5) rest)))))
+unfoldable pub pirprLayout : Layout PortAsked
+pirprLayout =
+    shaped (λ v. record { port = v .0; rate = v .1 .0; protocol = v .1 .1 .0; mask = v .1 .1 .1 })
+    (λ r. (r .port, (r .rate, (r .protocol, r .mask))))
+    (maybeLayout then maybeLayout then maybeLayout then maybeLayout)
 
-abbrev pub lastSix : Gsa → List ℕ
-lastSix r =
-    sixFrom r 6
-    (maybe (r .pdop .there) (r .pdop .value)
-    (maybe (r .hdop .there) (r .hdop .value)
-    (maybe (r .vdop .there) (r .vdop .value) [])))
+unfoldable pub pirtrLayout : Layout DatumAsked
+pirtrLayout =
+    shaped (λ v. record { datum = v .0; zone = v .1 }) (λ r. (r .datum, r .zone))
+    (maybeLayout then zoneLayout)
 
-abbrev pub gsaNumbers : Talker → Gsa → List ℕ
-gsaNumbers t r = talkerNumber t ∷ r .selection ∷ r .fix ∷ sixFrom r 0 (lastSix r)
+unfoldable pub pirsrLayout : Layout MasksAsked
+pirsrLayout =
+    shaped (λ v. record { gps = v .0; glonass = v .1 .0 }) (λ r. (r .gps, (r .glonass, tt)))
+    (maybeLayout then maybeLayout then nothing)
 
--- A satellite of a GSV.
-abbrev pub entry : Entry → List ℕ → List ℕ
-entry e rest =
-    e .number
-    ∷ maybe (e .elevation .there) (e .elevation .value)
-    (maybe (e .azimuth .there) (e .azimuth .value)
-    (maybe (e .signal .there) (e .signal .value) rest))
+unfoldable pub pirpaLayout : Layout PortTold
+pirpaLayout =
+    shaped (λ v. record { port = v .0; rate = v .1 .0; protocol = v .1 .1 .0; mask = v .1 .1 .1 })
+    (λ r. (r .port, (r .rate, (r .protocol, r .mask))))
+    (whole then whole then whole then whole)
 
-abbrev pub entryIn : Gsv → ℕ → Entry
-entryIn r k = getD (r .entries) k blankEntry
+unfoldable pub pirtaLayout : Layout DatumTold
+pirtaLayout =
+    shaped (λ v. record { datum = v .0; zone = v .1 }) (λ r. (r .datum, r .zone))
+    (whole then signed)
 
-abbrev pub gsvNumbers : Talker → Gsv → List ℕ
-gsvNumbers t r =
-    talkerNumber t
-    ∷ r .lines
-    ∷ r .line
-    ∷ r .satellites
-    ∷ r .count
-    ∷ entry (entryIn r 0) (entry (entryIn r 1) (entry (entryIn r 2) (entry (entryIn r 3) [])))
+unfoldable pub pirsaLayout : Layout MasksTold
+pirsaLayout =
+    shaped (λ v. record { gps = v .0; glonass = v .1 .0 }) (λ r. (r .gps, (r .glonass, tt)))
+    (whole then whole then nothing)
 
-abbrev pub rmcNumbers : Talker → Rmc → List ℕ
-rmcNumbers t r =
-    talkerNumber t
-    ∷ maybe (r .time .there) (r .time .value)
-    (r .status
-    ∷ place (r .place)
-    (maybe (r .speed .there) (r .speed .value)
-    (maybe (r .course .there) (r .course .value)
-    (date (r .date)
-    (signed (r .variation .there) (r .variation .value) (r .mode ∷ []))))))
+unfoldable pub pireaLayout : Layout CodeTold
+pireaLayout =
+    shaped (λ v. record { code = v }) (λ r. r .code)
+    (whole)
 
-abbrev pub vtgNumbers : Talker → Vtg → List ℕ
-vtgNumbers t r =
-    talkerNumber t
-    ∷ maybe (r .course .there) (r .course .value)
-    (maybe (r .magnetic .there) (r .magnetic .value)
-    (maybe (r .knots .there) (r .knots .value)
-    (maybe (r .kmh .there) (r .kmh .value) (r .mode ∷ []))))
+-- The numbers of a talker's sentence, and how many they are; the numbers of one of the maker.
+abbrev pub standard : {R : Type 0} → Layout R → Layout (Talker × R)
+standard a = talkerLayout then a
 
-abbrev pub zdaNumbers : Talker → Zda → List ℕ
-zdaNumbers t r = talkerNumber t ∷ maybe (r .time .there) (r .time .value) (date (r .date) (signed (r .zone .there) (r .zone .minutes) []))
+abbrev pub standardNumbers : {R : Type 0} → Layout R → Talker → R → List ℤ
+standardNumbers a t r = standard a .numbers (t, r) []
 
-abbrev pub pirprNumbers : PortAsked → List ℕ
-pirprNumbers r =
-    maybe (r .port .there) (r .port .value)
-    (maybe (r .rate .there) (r .rate .value)
-    (maybe (r .protocol .there) (r .protocol .value)
-    (maybe (r .mask .there) (r .mask .value) [])))
+abbrev pub makerNumbers : {R : Type 0} → Layout R → R → List ℤ
+makerNumbers a r = a .numbers r []
 
-abbrev pub pirtrNumbers : DatumAsked → List ℕ
-pirtrNumbers r = maybe (r .datum .there) (r .datum .value) (signed (r .zone .there) (r .zone .minutes) [])
+abbrev pub ggaNumbers : Talker → Gga → List ℤ
+ggaNumbers = standardNumbers ggaLayout
 
-abbrev pub pirsrNumbers : MasksAsked → List ℕ
-pirsrNumbers r = maybe (r .gps .there) (r .gps .value) (maybe (r .glonass .there) (r .glonass .value) [])
+abbrev pub gllNumbers : Talker → Gll → List ℤ
+gllNumbers = standardNumbers gllLayout
 
-abbrev pub pirpaNumbers : PortTold → List ℕ
-pirpaNumbers r = r .port ∷ r .rate ∷ r .protocol ∷ r .mask ∷ []
+abbrev pub gsaNumbers : Talker → Gsa → List ℤ
+gsaNumbers = standardNumbers gsaLayout
 
-abbrev pub pirtaNumbers : DatumTold → List ℕ
-pirtaNumbers r = r .datum ∷ ofZ w32 (r .zone) ∷ []
+abbrev pub gsvNumbers : Talker → Gsv → List ℤ
+gsvNumbers = standardNumbers gsvLayout
 
-abbrev pub pirsaNumbers : MasksTold → List ℕ
-pirsaNumbers r = r .gps ∷ r .glonass ∷ []
+abbrev pub rmcNumbers : Talker → Rmc → List ℤ
+rmcNumbers = standardNumbers rmcLayout
 
-abbrev pub pireaNumbers : CodeTold → List ℕ
-pireaNumbers r = r .code ∷ []
+abbrev pub vtgNumbers : Talker → Vtg → List ℤ
+vtgNumbers = standardNumbers vtgLayout
+
+abbrev pub zdaNumbers : Talker → Zda → List ℤ
+zdaNumbers = standardNumbers zdaLayout
+
+abbrev pub pirprNumbers : PortAsked → List ℤ
+pirprNumbers = makerNumbers pirprLayout
+
+abbrev pub pirtrNumbers : DatumAsked → List ℤ
+pirtrNumbers = makerNumbers pirtrLayout
+
+abbrev pub pirsrNumbers : MasksAsked → List ℤ
+pirsrNumbers = makerNumbers pirsrLayout
+
+abbrev pub pirpaNumbers : PortTold → List ℤ
+pirpaNumbers = makerNumbers pirpaLayout
+
+abbrev pub pirtaNumbers : DatumTold → List ℤ
+pirtaNumbers = makerNumbers pirtaLayout
+
+abbrev pub pirsaNumbers : MasksTold → List ℤ
+pirsaNumbers = makerNumbers pirsaLayout
+
+abbrev pub pireaNumbers : CodeTold → List ℤ
+pireaNumbers = makerNumbers pireaLayout
 
 -- The numbers of what a line was read to; none where it was refused.
-abbrev pub sentenceNumbers : Sentence → Gsa → Gsv → List ℕ
+abbrev pub sentenceNumbers : Sentence → Gsa → Gsv → List ℤ
 sentenceNumbers (S.Gga t r) gsa gsv = ggaNumbers t r
 sentenceNumbers (S.Gll t r) gsa gsv = gllNumbers t r
 sentenceNumbers (S.Gsa t) gsa gsv = gsaNumbers t gsa
@@ -166,7 +220,7 @@ sentenceNumbers (S.Sa r) gsa gsv = pirsaNumbers r
 sentenceNumbers (S.Ea r) gsa gsv = pireaNumbers r
 sentenceNumbers (S.Refused n f) gsa gsv = []
 
-abbrev pub numbersOf : Reading → List ℕ
+abbrev pub numbersOf : Reading → List ℤ
 numbersOf r = sentenceNumbers (r .sentence) (r .gsa) (r .gsv)
 
 -- The number of a sentence's kind; 0 where it was refused.
@@ -190,7 +244,24 @@ kindOf (S.Refused n f) = 0
 
 -- How many numbers each kind has, by its number; none for what is no kind.
 abbrev pub counts : List ℕ
-counts = 0 ∷ 19 ∷ 8 ∷ 33 ∷ 33 ∷ 18 ∷ 10 ∷ 9 ∷ 8 ∷ 4 ∷ 4 ∷ 0 ∷ 4 ∷ 2 ∷ 2 ∷ 1 ∷ []
+counts =
+    0
+    ∷ standard ggaLayout .size
+    ∷ standard gllLayout .size
+    ∷ standard gsaLayout .size
+    ∷ standard gsvLayout .size
+    ∷ standard rmcLayout .size
+    ∷ standard vtgLayout .size
+    ∷ standard zdaLayout .size
+    ∷ pirprLayout .size
+    ∷ pirtrLayout .size
+    ∷ pirsrLayout .size
+    ∷ 0
+    ∷ pirpaLayout .size
+    ∷ pirtaLayout .size
+    ∷ pirsaLayout .size
+    ∷ pireaLayout .size
+    ∷ []
 
 abbrev pub countOf : ℕ → ℕ
 countOf kind = getD counts kind 0

@@ -10,80 +10,85 @@ ghost use mathlib.Core.Path.{_≡_};
 ghost use lib.Dec.{leb};
 ghost use lib.ListN.{length};
 ghost use Rattle.slots.specs.Slots.{laid};
-ghost use Rattle.tonumbers.specs.Layout.{pirprNumbers, pirtrNumbers, pirsrNumbers, pirpaNumbers, pirtaNumbers, pirsaNumbers};
-ghost use Rattle.tonumbers.specs.Layout.{pireaNumbers};
+ghost use Rattle.tonumbers.specs.Layout.{pirprNumbers, pirtrNumbers, pirsrNumbers};
+ghost use Rattle.tonumbers.specs.Layout.{pirpaNumbers, pirtaNumbers, pirsaNumbers, pireaNumbers};
 
-pub fn pirpr(out: &mut [u32], r: PortAsked) -> bool
+pub fn pirpr(out: &mut [i64], r: PortAsked) -> bool
     ensures { λ b. ⌜ b ≡ leb (length (pirprNumbers r)) (length (now (out .entry))) ⌝ }
     ensures { λ _. ⌜ now (out .exit) ≡ laid (pirprNumbers r) (now (out .entry)) ⌝ }
 {
-    let port_there = slots::mark(r.port.there);
-    let rate_there = slots::mark(r.rate.there);
-    let protocol_there = slots::mark(r.protocol.there);
-    let mask_there = slots::mark(r.mask.there);
     let v = [
-        port_there,
-        r.port.value,
-        rate_there,
-        r.rate.value,
-        protocol_there,
-        r.protocol.value,
-        mask_there,
-        r.mask.value,
+        r.port.there as i64,
+        r.port.value as i64,
+        r.rate.there as i64,
+        r.rate.value as i64,
+        r.protocol.there as i64,
+        r.protocol.value as i64,
+        r.mask.there as i64,
+        r.mask.value as i64,
     ];
     slots::lay(out, &v)
 }
 
-pub fn pirtr(out: &mut [u32], r: DatumAsked) -> bool
+pub fn pirtr(out: &mut [i64], r: DatumAsked) -> bool
     ensures { λ b. ⌜ b ≡ leb (length (pirtrNumbers r)) (length (now (out .entry))) ⌝ }
     ensures { λ _. ⌜ now (out .exit) ≡ laid (pirtrNumbers r) (now (out .entry)) ⌝ }
 {
-    let datum_there = slots::mark(r.datum.there);
-    let zone_there = slots::mark(r.zone.there);
-    let zone = slots::bits(r.zone.minutes);
-    let v = [datum_there, r.datum.value, zone_there, zone];
+    let v = [
+        r.datum.there as i64,
+        r.datum.value as i64,
+        r.zone.there as i64,
+        r.zone.minutes as i64,
+    ];
     slots::lay(out, &v)
 }
 
-pub fn pirsr(out: &mut [u32], r: MasksAsked) -> bool
+pub fn pirsr(out: &mut [i64], r: MasksAsked) -> bool
     ensures { λ b. ⌜ b ≡ leb (length (pirsrNumbers r)) (length (now (out .entry))) ⌝ }
     ensures { λ _. ⌜ now (out .exit) ≡ laid (pirsrNumbers r) (now (out .entry)) ⌝ }
 {
-    let gps_there = slots::mark(r.gps.there);
-    let glonass_there = slots::mark(r.glonass.there);
-    let v = [gps_there, r.gps.value, glonass_there, r.glonass.value];
+    let v = [
+        r.gps.there as i64,
+        r.gps.value as i64,
+        r.glonass.there as i64,
+        r.glonass.value as i64,
+    ];
     slots::lay(out, &v)
 }
 
-pub fn pirpa(out: &mut [u32], r: PortTold) -> bool
+pub fn pirpa(out: &mut [i64], r: PortTold) -> bool
     ensures { λ b. ⌜ b ≡ leb (length (pirpaNumbers r)) (length (now (out .entry))) ⌝ }
     ensures { λ _. ⌜ now (out .exit) ≡ laid (pirpaNumbers r) (now (out .entry)) ⌝ }
 {
-    let v = [r.port, r.rate, r.protocol, r.mask];
+    let v = [
+        r.port as i64,
+        r.rate as i64,
+        r.protocol as i64,
+        r.mask as i64,
+    ];
     slots::lay(out, &v)
 }
 
-pub fn pirta(out: &mut [u32], r: DatumTold) -> bool
+pub fn pirta(out: &mut [i64], r: DatumTold) -> bool
     ensures { λ b. ⌜ b ≡ leb (length (pirtaNumbers r)) (length (now (out .entry))) ⌝ }
     ensures { λ _. ⌜ now (out .exit) ≡ laid (pirtaNumbers r) (now (out .entry)) ⌝ }
 {
-    let zone = slots::bits(r.zone);
-    let v = [r.datum, zone];
+    let v = [r.datum as i64, r.zone as i64];
     slots::lay(out, &v)
 }
 
-pub fn pirsa(out: &mut [u32], r: MasksTold) -> bool
+pub fn pirsa(out: &mut [i64], r: MasksTold) -> bool
     ensures { λ b. ⌜ b ≡ leb (length (pirsaNumbers r)) (length (now (out .entry))) ⌝ }
     ensures { λ _. ⌜ now (out .exit) ≡ laid (pirsaNumbers r) (now (out .entry)) ⌝ }
 {
-    let v = [r.gps, r.glonass];
+    let v = [r.gps as i64, r.glonass as i64];
     slots::lay(out, &v)
 }
 
-pub fn pirea(out: &mut [u32], r: CodeTold) -> bool
+pub fn pirea(out: &mut [i64], r: CodeTold) -> bool
     ensures { λ b. ⌜ b ≡ leb (length (pireaNumbers r)) (length (now (out .entry))) ⌝ }
     ensures { λ _. ⌜ now (out .exit) ≡ laid (pireaNumbers r) (now (out .entry)) ⌝ }
 {
-    let v = [r.code];
+    let v = [r.code as i64];
     slots::lay(out, &v)
 }

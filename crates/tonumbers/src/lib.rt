@@ -37,7 +37,7 @@ pub fn kind_of(sentence: Sentence) -> u32
 
 // Stores the numbers of a record at the start of `out` and answers whether there was room; where there was
 // none, `out` is left. A refused sentence has no numbers.
-pub fn lay(out: &mut [u32], reading: Reading) -> bool
+pub fn lay(out: &mut [i64], reading: Reading) -> bool
     ensures { λ r. ⌜ r ≡ leb (length (numbersOf reading)) (length (now (out .entry))) ⌝ }
     ensures { λ _. ⌜ now (out .exit) ≡ laid (numbersOf reading) (now (out .entry)) ⌝ }
 {

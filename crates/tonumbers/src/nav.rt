@@ -11,149 +11,116 @@ ghost use lib.ListN.{length};
 ghost use Rattle.slots.specs.Slots.{laid};
 ghost use Rattle.tonumbers.specs.Layout.{ggaNumbers, gllNumbers, rmcNumbers, vtgNumbers, zdaNumbers};
 
-pub fn gga(out: &mut [u32], t: Talker, r: Gga) -> bool
+pub fn gga(out: &mut [i64], t: Talker, r: Gga) -> bool
     ensures { λ b. ⌜ b ≡ leb (length (ggaNumbers t r)) (length (now (out .entry))) ⌝ }
     ensures { λ _. ⌜ now (out .exit) ≡ laid (ggaNumbers t r) (now (out .entry)) ⌝ }
 {
     let talker = slots::talker_number(t);
-    let time_there = slots::mark(r.time.there);
-    let place_there = slots::mark(r.place.there);
-    let lat = slots::bits(r.place.lat);
-    let lon = slots::bits(r.place.lon);
-    let satellites_there = slots::mark(r.satellites.there);
-    let hdop_there = slots::mark(r.hdop.there);
-    let altitude_there = slots::mark(r.altitude.there);
-    let altitude = slots::bits(r.altitude.value);
-    let geoid_there = slots::mark(r.geoid.there);
-    let geoid = slots::bits(r.geoid.value);
-    let age_there = slots::mark(r.age.there);
-    let station_there = slots::mark(r.station.there);
     let v = [
-        talker,
-        time_there,
-        r.time.value,
-        place_there,
-        lat,
-        lon,
-        r.quality,
-        satellites_there,
-        r.satellites.value,
-        hdop_there,
-        r.hdop.value,
-        altitude_there,
-        altitude,
-        geoid_there,
-        geoid,
-        age_there,
-        r.age.value,
-        station_there,
-        r.station.value,
+        talker as i64,
+        r.time.there as i64,
+        r.time.value as i64,
+        r.place.there as i64,
+        r.place.lat as i64,
+        r.place.lon as i64,
+        r.quality as i64,
+        r.satellites.there as i64,
+        r.satellites.value as i64,
+        r.hdop.there as i64,
+        r.hdop.value as i64,
+        r.altitude.there as i64,
+        r.altitude.value as i64,
+        r.geoid.there as i64,
+        r.geoid.value as i64,
+        r.age.there as i64,
+        r.age.value as i64,
+        r.station.there as i64,
+        r.station.value as i64,
     ];
     slots::lay(out, &v)
 }
 
-pub fn gll(out: &mut [u32], t: Talker, r: Gll) -> bool
+pub fn gll(out: &mut [i64], t: Talker, r: Gll) -> bool
     ensures { λ b. ⌜ b ≡ leb (length (gllNumbers t r)) (length (now (out .entry))) ⌝ }
     ensures { λ _. ⌜ now (out .exit) ≡ laid (gllNumbers t r) (now (out .entry)) ⌝ }
 {
     let talker = slots::talker_number(t);
-    let place_there = slots::mark(r.place.there);
-    let lat = slots::bits(r.place.lat);
-    let lon = slots::bits(r.place.lon);
-    let time_there = slots::mark(r.time.there);
     let v = [
-        talker,
-        place_there,
-        lat,
-        lon,
-        time_there,
-        r.time.value,
-        r.status,
-        r.mode,
+        talker as i64,
+        r.place.there as i64,
+        r.place.lat as i64,
+        r.place.lon as i64,
+        r.time.there as i64,
+        r.time.value as i64,
+        r.status as i64,
+        r.mode as i64,
     ];
     slots::lay(out, &v)
 }
 
-pub fn rmc(out: &mut [u32], t: Talker, r: Rmc) -> bool
+pub fn rmc(out: &mut [i64], t: Talker, r: Rmc) -> bool
     ensures { λ b. ⌜ b ≡ leb (length (rmcNumbers t r)) (length (now (out .entry))) ⌝ }
     ensures { λ _. ⌜ now (out .exit) ≡ laid (rmcNumbers t r) (now (out .entry)) ⌝ }
 {
     let talker = slots::talker_number(t);
-    let time_there = slots::mark(r.time.there);
-    let place_there = slots::mark(r.place.there);
-    let lat = slots::bits(r.place.lat);
-    let lon = slots::bits(r.place.lon);
-    let speed_there = slots::mark(r.speed.there);
-    let course_there = slots::mark(r.course.there);
-    let date_there = slots::mark(r.date.there);
-    let variation_there = slots::mark(r.variation.there);
-    let variation = slots::bits(r.variation.value);
     let v = [
-        talker,
-        time_there,
-        r.time.value,
-        r.status,
-        place_there,
-        lat,
-        lon,
-        speed_there,
-        r.speed.value,
-        course_there,
-        r.course.value,
-        date_there,
-        r.date.day,
-        r.date.month,
-        r.date.year,
-        variation_there,
-        variation,
-        r.mode,
+        talker as i64,
+        r.time.there as i64,
+        r.time.value as i64,
+        r.status as i64,
+        r.place.there as i64,
+        r.place.lat as i64,
+        r.place.lon as i64,
+        r.speed.there as i64,
+        r.speed.value as i64,
+        r.course.there as i64,
+        r.course.value as i64,
+        r.date.there as i64,
+        r.date.day as i64,
+        r.date.month as i64,
+        r.date.year as i64,
+        r.variation.there as i64,
+        r.variation.value as i64,
+        r.mode as i64,
     ];
     slots::lay(out, &v)
 }
 
-pub fn vtg(out: &mut [u32], t: Talker, r: Vtg) -> bool
+pub fn vtg(out: &mut [i64], t: Talker, r: Vtg) -> bool
     ensures { λ b. ⌜ b ≡ leb (length (vtgNumbers t r)) (length (now (out .entry))) ⌝ }
     ensures { λ _. ⌜ now (out .exit) ≡ laid (vtgNumbers t r) (now (out .entry)) ⌝ }
 {
     let talker = slots::talker_number(t);
-    let course_there = slots::mark(r.course.there);
-    let magnetic_there = slots::mark(r.magnetic.there);
-    let knots_there = slots::mark(r.knots.there);
-    let kmh_there = slots::mark(r.kmh.there);
     let v = [
-        talker,
-        course_there,
-        r.course.value,
-        magnetic_there,
-        r.magnetic.value,
-        knots_there,
-        r.knots.value,
-        kmh_there,
-        r.kmh.value,
-        r.mode,
+        talker as i64,
+        r.course.there as i64,
+        r.course.value as i64,
+        r.magnetic.there as i64,
+        r.magnetic.value as i64,
+        r.knots.there as i64,
+        r.knots.value as i64,
+        r.kmh.there as i64,
+        r.kmh.value as i64,
+        r.mode as i64,
     ];
     slots::lay(out, &v)
 }
 
-pub fn zda(out: &mut [u32], t: Talker, r: Zda) -> bool
+pub fn zda(out: &mut [i64], t: Talker, r: Zda) -> bool
     ensures { λ b. ⌜ b ≡ leb (length (zdaNumbers t r)) (length (now (out .entry))) ⌝ }
     ensures { λ _. ⌜ now (out .exit) ≡ laid (zdaNumbers t r) (now (out .entry)) ⌝ }
 {
     let talker = slots::talker_number(t);
-    let time_there = slots::mark(r.time.there);
-    let date_there = slots::mark(r.date.there);
-    let zone_there = slots::mark(r.zone.there);
-    let zone = slots::bits(r.zone.minutes);
     let v = [
-        talker,
-        time_there,
-        r.time.value,
-        date_there,
-        r.date.day,
-        r.date.month,
-        r.date.year,
-        zone_there,
-        zone,
+        talker as i64,
+        r.time.there as i64,
+        r.time.value as i64,
+        r.date.there as i64,
+        r.date.day as i64,
+        r.date.month as i64,
+        r.date.year as i64,
+        r.zone.there as i64,
+        r.zone.minutes as i64,
     ];
     slots::lay(out, &v)
 }

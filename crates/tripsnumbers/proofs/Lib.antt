@@ -1,4 +1,6 @@
+pub mod Fitted
 pub mod Records
 pub mod Whole
+pub mod Ranged
 pub mod Lines
 pub mod Host

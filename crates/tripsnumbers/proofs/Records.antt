@@ -1,158 +1,190 @@
--- The record at the numbers of a record is that record, kind by kind and whatever numbers come after: a mark says again whether its value
--- is there, and a signed value that fits 32 bits is again itself.
-use Prim.Native.Nat.{ℕ}
-use mathlib.Core.Path.{_≡_, refl}
-use mathlib.Core.Bool.{Bool, false, true}
-use mathlib.Core.List.{_++_, List}
+-- The layout of each kind is lawful, a line a kind; so the record at the numbers of a record is that record, whatever numbers come after.
+use Prim.Native.Nat.{_≤_, ℕ}
+use mathlib.Core.Path.{_∙_, _≡_, ap, refl}
+use mathlib.Core.Bool.{_&&_, true}
+use mathlib.Core.List.{[], _++_, List}
+use native.Mathlib.Omega.{arith}
 use lib.IntN.{ℤ}
-use lib.ListN.{getD, length}
-use mir.Syntax.{w32}
-use mir.Val.{ofZ, SFits, toZ}
-use mir.Facts.{toZ-ofZ}
+use lib.ListN.{length, length-append}
 use Rattle.address.specs.declared.Talker.{Talker}
-use Rattle.records.specs.declared.CodeTold.{CodeTold}
-use Rattle.records.specs.declared.DatumAsked.{DatumAsked}
-use Rattle.records.specs.declared.DatumTold.{DatumTold}
-use Rattle.records.specs.declared.Gga.{Gga}
-use Rattle.records.specs.declared.Gll.{Gll}
-use Rattle.records.specs.declared.Gsa.{Gsa}
-use Rattle.records.specs.declared.Gsv.{Gsv}
-use Rattle.records.specs.declared.MasksAsked.{MasksAsked}
-use Rattle.records.specs.declared.MasksTold.{MasksTold}
-use Rattle.records.specs.declared.PortAsked.{PortAsked}
-use Rattle.records.specs.declared.PortTold.{PortTold}
-use Rattle.records.specs.declared.Rmc.{Rmc}
-use Rattle.records.specs.declared.Vtg.{Vtg}
-use Rattle.records.specs.declared.Zda.{Zda}
-use Rattle.form_position.specs.declared.Place.{Place}
 use Rattle.form.specs.Values.{noMaybe}
 use Rattle.records.specs.Blank.{blankEntry}
-use Rattle.slots.specs.Slots.{isThere, markOf}
-use Rattle.tonumbers.specs.Layout.{ggaNumbers, gllNumbers, gsaNumbers, gsvNumbers, pireaNumbers, pirpaNumbers, pirprNumbers, pirsaNumbers}
-use Rattle.tonumbers.specs.Layout.{pirsrNumbers, pirtaNumbers, pirtrNumbers, rmcNumbers, vtgNumbers, zdaNumbers}
-use Rattle.fromnumbers.specs.Back.{ggaAt, gllAt, gsaAt, gsvAt, pireaAt, pirpaAt, pirprAt, pirsaAt, pirsrAt, pirtaAt, pirtrAt, rmcAt, vtgAt}
-use Rattle.fromnumbers.specs.Back.{zdaAt}
-use Rattle.form.proofs.Lists.{all-four, all-twelve}
+use Rattle.slots.specs.Slots.{talkerNumber}
+use Rattle.slots.specs.Layout.{Layout, whole}
+use Rattle.slots.proofs.Arrays.{lawful-several}
+use Rattle.slots.proofs.Fitting.{whole-back}
+use Rattle.slots.proofs.Layouts.{_⊗_, lawful-nothing, lawful-shaped, lawful-signed, lawful-whole, LawfulLayout}
+use Rattle.slots.proofs.Values.{lawful-date, lawful-entry, lawful-kmh, lawful-knots, lawful-maybe, lawful-number, lawful-place}
+use Rattle.slots.proofs.Values.{lawful-signs, lawful-talker, lawful-zone, numbers-back, numbers-many, talker-held}
+use Rattle.tonumbers.specs.Layout.{ggaLayout, gllLayout, gsaLayout, gsvLayout, makerNumbers, pireaLayout, pirpaLayout, pirprLayout}
+use Rattle.tonumbers.specs.Layout.{pirsaLayout, pirsrLayout, pirtaLayout, pirtrLayout, rmcLayout, standard, standardNumbers, vtgLayout}
+use Rattle.tonumbers.specs.Layout.{zdaLayout}
 
-pub mark-back : (b : Bool) → isThere (markOf b) ≡ b
-mark-back true = refl
-mark-back false = refl
+pub lawful-gga : LawfulLayout ggaLayout
+unfolding ggaLayout
+lawful-gga =
+    lawful-shaped
+    (λ v. record {
+      time = v .0;
+      place = v .1 .0;
+      quality = v .1 .1 .0;
+      satellites = v .1 .1 .1 .0;
+      hdop = v .1 .1 .1 .1 .0;
+      altitude = v .1 .1 .1 .1 .1 .0;
+      geoid = v .1 .1 .1 .1 .1 .1 .0;
+      age = v .1 .1 .1 .1 .1 .1 .1 .0;
+      station = v .1 .1 .1 .1 .1 .1 .1 .1;
+    })
+    (λ r. (r .time, (r .place, (r .quality, (r .satellites, (r .hdop, (r .altitude, (r .geoid, (r .age, r .station))))))))) _ (λ r. refl)
+    (lawful-maybe ⊗ lawful-place ⊗ lawful-whole ⊗ lawful-maybe ⊗ lawful-number ⊗ lawful-signs ⊗ lawful-signs ⊗ lawful-number ⊗ lawful-maybe)
 
-int-back : (z : ℤ) → SFits w32 z → toZ w32 (ofZ w32 z) ≡ z
-int-back z f = toZ-ofZ {w = w32} {z = z} f
+pub lawful-gll : LawfulLayout gllLayout
+unfolding gllLayout
+lawful-gll =
+    lawful-shaped
+    (λ v. record { place = v .0; time = v .1 .0; status = v .1 .1 .0; mode = v .1 .1 .1 })
+    (λ r. (r .place, (r .time, (r .status, r .mode)))) _ (λ r. refl)
+    (lawful-place ⊗ lawful-maybe ⊗ lawful-whole ⊗ lawful-whole)
 
--- The values of a record that have a sign fit 32 bits.
-abbrev pub PlaceFits : Place → Type 0
-PlaceFits p = SFits w32 (p .lat) × SFits w32 (p .lon)
+pub lawful-gsa : LawfulLayout gsaLayout
+unfolding gsaLayout
+lawful-gsa =
+    lawful-shaped
+    (λ v. record {
+      selection = v .0;
+      fix = v .1 .0;
+      satellites = v .1 .1 .0;
+      pdop = v .1 .1 .1 .0;
+      hdop = v .1 .1 .1 .1 .0;
+      vdop = v .1 .1 .1 .1 .1;
+    })
+    (λ r. (r .selection, (r .fix, (r .satellites, (r .pdop, (r .hdop, r .vdop)))))) _ (λ r. refl)
+    (lawful-whole ⊗ lawful-whole ⊗ lawful-several 12 noMaybe lawful-maybe ⊗ lawful-number ⊗ lawful-number ⊗ lawful-number)
 
-abbrev pub GgaFits : Gga → Type 0
-GgaFits r = PlaceFits (r .place) × SFits w32 (r .altitude .value) × SFits w32 (r .geoid .value)
+pub lawful-gsv : LawfulLayout gsvLayout
+unfolding gsvLayout
+lawful-gsv =
+    lawful-shaped
+    (λ v. record {
+      lines = v .0;
+      line = v .1 .0;
+      satellites = v .1 .1 .0;
+      count = v .1 .1 .1 .0;
+      entries = v .1 .1 .1 .1;
+    })
+    (λ r. (r .lines, (r .line, (r .satellites, (r .count, r .entries))))) _ (λ r. refl)
+    (lawful-whole ⊗ lawful-whole ⊗ lawful-whole ⊗ lawful-whole ⊗ lawful-several 4 blankEntry lawful-entry)
 
-abbrev pub RmcFits : Rmc → Type 0
-RmcFits r = PlaceFits (r .place) × SFits w32 (r .variation .value)
+pub lawful-rmc : LawfulLayout rmcLayout
+unfolding rmcLayout
+lawful-rmc =
+    lawful-shaped
+    (λ v. record {
+      time = v .0;
+      status = v .1 .0;
+      place = v .1 .1 .0;
+      speed = v .1 .1 .1 .0;
+      course = v .1 .1 .1 .1 .0;
+      date = v .1 .1 .1 .1 .1 .0;
+      variation = v .1 .1 .1 .1 .1 .1 .0;
+      mode = v .1 .1 .1 .1 .1 .1 .1;
+    })
+    (λ r. (r .time, (r .status, (r .place, (r .speed, (r .course, (r .date, (r .variation, r .mode)))))))) _ (λ r. refl)
+    (lawful-maybe ⊗ lawful-whole ⊗ lawful-place ⊗ lawful-knots ⊗ lawful-number ⊗ lawful-date ⊗ lawful-signs ⊗ lawful-whole)
 
-pub gga-back : (t : Talker) (r : Gga) (rest : List ℕ) → GgaFits r → ggaAt (ggaNumbers t r ++ rest) ≡ r
-gga-back t r rest f = rw (
-  mark-back (r .time .there),
-  mark-back (r .place .there),
-  int-back (r .place .lat) (f .0 .0),
-  int-back (r .place .lon) (f .0 .1),
-  mark-back (r .satellites .there),
-  mark-back (r .hdop .there),
-  mark-back (r .altitude .there),
-  int-back (r .altitude .value) (f .1),
-  mark-back (r .geoid .there),
-  int-back (r .geoid .value) (f .2),
-  mark-back (r .age .there),
-  mark-back (r .station .there),
-)
+pub lawful-vtg : LawfulLayout vtgLayout
+unfolding vtgLayout
+lawful-vtg =
+    lawful-shaped
+    (λ v. record {
+      course = v .0;
+      magnetic = v .1 .0;
+      knots = v .1 .1 .0;
+      kmh = v .1 .1 .1 .0;
+      mode = v .1 .1 .1 .1;
+    })
+    (λ r. (r .course, (r .magnetic, (r .knots, (r .kmh, r .mode))))) _ (λ r. refl)
+    (lawful-number ⊗ lawful-number ⊗ lawful-knots ⊗ lawful-kmh ⊗ lawful-whole)
 
-pub gll-back : (t : Talker) (r : Gll) (rest : List ℕ) → PlaceFits (r .place) → gllAt (gllNumbers t r ++ rest) ≡ r
-gll-back t r rest f = rw (
-  mark-back (r .place .there),
-  int-back (r .place .lat) (f .0),
-  int-back (r .place .lon) (f .1),
-  mark-back (r .time .there),
-)
+pub lawful-zda : LawfulLayout zdaLayout
+unfolding zdaLayout
+lawful-zda =
+    lawful-shaped
+    (λ v. record { time = v .0; date = v .1 .0; zone = v .1 .1 })
+    (λ r. (r .time, (r .date, r .zone))) _ (λ r. refl)
+    (lawful-maybe ⊗ lawful-date ⊗ lawful-zone)
 
-pub gsa-back : (t : Talker) (r : Gsa) (rest : List ℕ) → length (r .satellites) ≡ 12 → gsaAt (gsaNumbers t r ++ rest) ≡ r
-gsa-back t r rest h = rw (
-  mark-back (getD (r .satellites) 0 noMaybe .there),
-  mark-back (getD (r .satellites) 1 noMaybe .there),
-  mark-back (getD (r .satellites) 2 noMaybe .there),
-  mark-back (getD (r .satellites) 3 noMaybe .there),
-  mark-back (getD (r .satellites) 4 noMaybe .there),
-  mark-back (getD (r .satellites) 5 noMaybe .there),
-  mark-back (getD (r .satellites) 6 noMaybe .there),
-  mark-back (getD (r .satellites) 7 noMaybe .there),
-  mark-back (getD (r .satellites) 8 noMaybe .there),
-  mark-back (getD (r .satellites) 9 noMaybe .there),
-  mark-back (getD (r .satellites) 10 noMaybe .there),
-  mark-back (getD (r .satellites) 11 noMaybe .there),
-  mark-back (r .pdop .there),
-  mark-back (r .hdop .there),
-  mark-back (r .vdop .there),
-  all-twelve noMaybe (r .satellites) h,
-)
+pub lawful-pirpr : LawfulLayout pirprLayout
+unfolding pirprLayout
+lawful-pirpr =
+    lawful-shaped
+    (λ v. record { port = v .0; rate = v .1 .0; protocol = v .1 .1 .0; mask = v .1 .1 .1 })
+    (λ r. (r .port, (r .rate, (r .protocol, r .mask)))) _ (λ r. refl)
+    (lawful-maybe ⊗ lawful-maybe ⊗ lawful-maybe ⊗ lawful-maybe)
 
-pub gsv-back : (t : Talker) (r : Gsv) (rest : List ℕ) → length (r .entries) ≡ 4 → gsvAt (gsvNumbers t r ++ rest) ≡ r
-gsv-back t r rest h = rw (
-  mark-back (getD (r .entries) 0 blankEntry .elevation .there),
-  mark-back (getD (r .entries) 0 blankEntry .azimuth .there),
-  mark-back (getD (r .entries) 0 blankEntry .signal .there),
-  mark-back (getD (r .entries) 1 blankEntry .elevation .there),
-  mark-back (getD (r .entries) 1 blankEntry .azimuth .there),
-  mark-back (getD (r .entries) 1 blankEntry .signal .there),
-  mark-back (getD (r .entries) 2 blankEntry .elevation .there),
-  mark-back (getD (r .entries) 2 blankEntry .azimuth .there),
-  mark-back (getD (r .entries) 2 blankEntry .signal .there),
-  mark-back (getD (r .entries) 3 blankEntry .elevation .there),
-  mark-back (getD (r .entries) 3 blankEntry .azimuth .there),
-  mark-back (getD (r .entries) 3 blankEntry .signal .there),
-  all-four blankEntry (r .entries) h,
-)
+pub lawful-pirtr : LawfulLayout pirtrLayout
+unfolding pirtrLayout
+lawful-pirtr =
+    lawful-shaped
+    (λ v. record { datum = v .0; zone = v .1 })
+    (λ r. (r .datum, r .zone)) _ (λ r. refl)
+    (lawful-maybe ⊗ lawful-zone)
 
-pub rmc-back : (t : Talker) (r : Rmc) (rest : List ℕ) → RmcFits r → rmcAt (rmcNumbers t r ++ rest) ≡ r
-rmc-back t r rest f = rw (
-  mark-back (r .time .there),
-  mark-back (r .place .there),
-  int-back (r .place .lat) (f .0 .0),
-  int-back (r .place .lon) (f .0 .1),
-  mark-back (r .speed .there),
-  mark-back (r .course .there),
-  mark-back (r .date .there),
-  mark-back (r .variation .there),
-  int-back (r .variation .value) (f .1),
-)
+pub lawful-pirsr : LawfulLayout pirsrLayout
+unfolding pirsrLayout
+lawful-pirsr =
+    lawful-shaped
+    (λ v. record { gps = v .0; glonass = v .1 .0 })
+    (λ r. (r .gps, (r .glonass, tt))) _ (λ r. refl)
+    (lawful-maybe ⊗ lawful-maybe ⊗ lawful-nothing)
 
-pub vtg-back : (t : Talker) (r : Vtg) (rest : List ℕ) → vtgAt (vtgNumbers t r ++ rest) ≡ r
-vtg-back t r rest = rw (
-  mark-back (r .course .there),
-  mark-back (r .magnetic .there),
-  mark-back (r .knots .there),
-  mark-back (r .kmh .there),
-)
+pub lawful-pirpa : LawfulLayout pirpaLayout
+unfolding pirpaLayout
+lawful-pirpa =
+    lawful-shaped
+    (λ v. record { port = v .0; rate = v .1 .0; protocol = v .1 .1 .0; mask = v .1 .1 .1 })
+    (λ r. (r .port, (r .rate, (r .protocol, r .mask)))) _ (λ r. refl)
+    (lawful-whole ⊗ lawful-whole ⊗ lawful-whole ⊗ lawful-whole)
 
-pub zda-back : (t : Talker) (r : Zda) (rest : List ℕ) → SFits w32 (r .zone .minutes) → zdaAt (zdaNumbers t r ++ rest) ≡ r
-zda-back t r rest f = rw (mark-back (r .time .there), mark-back (r .date .there), mark-back (r .zone .there), int-back (r .zone .minutes) f)
+pub lawful-pirta : LawfulLayout pirtaLayout
+unfolding pirtaLayout
+lawful-pirta =
+    lawful-shaped
+    (λ v. record { datum = v .0; zone = v .1 })
+    (λ r. (r .datum, r .zone)) _ (λ r. refl)
+    (lawful-whole ⊗ lawful-signed)
 
-pub pirpr-back : (r : PortAsked) (rest : List ℕ) → pirprAt (pirprNumbers r ++ rest) ≡ r
-pirpr-back r rest = rw (mark-back (r .port .there), mark-back (r .rate .there), mark-back (r .protocol .there), mark-back (r .mask .there))
+pub lawful-pirsa : LawfulLayout pirsaLayout
+unfolding pirsaLayout
+lawful-pirsa =
+    lawful-shaped
+    (λ v. record { gps = v .0; glonass = v .1 .0 })
+    (λ r. (r .gps, (r .glonass, tt))) _ (λ r. refl)
+    (lawful-whole ⊗ lawful-whole ⊗ lawful-nothing)
 
-pub pirtr-back : (r : DatumAsked) (rest : List ℕ) → SFits w32 (r .zone .minutes) → pirtrAt (pirtrNumbers r ++ rest) ≡ r
-pirtr-back r rest f = rw (mark-back (r .datum .there), mark-back (r .zone .there), int-back (r .zone .minutes) f)
+pub lawful-pirea : LawfulLayout pireaLayout
+unfolding pireaLayout
+lawful-pirea =
+    lawful-shaped
+    (λ v. record { code = v })
+    (λ r. r .code) _ (λ r. refl)
+    (lawful-whole)
 
-pub pirsr-back : (r : MasksAsked) (rest : List ℕ) → pirsrAt (pirsrNumbers r ++ rest) ≡ r
-pirsr-back r rest = rw (mark-back (r .gps .there), mark-back (r .glonass .there))
+-- Of a talker's sentence: its numbers are as many as its kind has, the first says the talker, and the record comes back.
+module _ {R : Type 0} {a : Layout R} (f : LawfulLayout a) (t : Talker) (r : R) (rest : List ℤ) where
+  pub standard-long : standard a .size ≤ length (standardNumbers a t r ++ rest)
+  standard-long = omega (arith, numbers-many (lawful-talker ⊗ f) (t, r), length-append (standardNumbers a t r) rest)
 
-pub pirpa-back : (r : PortTold) (rest : List ℕ) → pirpaAt (pirpaNumbers r ++ rest) ≡ r
-pirpa-back r rest = refl
+  pub standard-first : whole .at (standardNumbers a t r ++ rest) 0 ≡ talkerNumber t
+  standard-first = whole-back (talkerNumber t) (talker-held t)
 
-pub pirta-back : (r : DatumTold) (rest : List ℕ) → SFits w32 (r .zone) → pirtaAt (pirtaNumbers r ++ rest) ≡ r
-pirta-back r rest f = rw (int-back (r .zone) f)
+  pub standard-back : a .held r ≡ true → standard a .at (standardNumbers a t r ++ rest) 0 .1 ≡ r
+  standard-back h = ap (λ (v : Talker × R). v .1) (numbers-back (lawful-talker ⊗ f) [] (t, r) rest (rw (talker-held t, h)))
 
-pub pirsa-back : (r : MasksTold) (rest : List ℕ) → pirsaAt (pirsaNumbers r ++ rest) ≡ r
-pirsa-back r rest = refl
+-- Of one of the maker.
+module _ {R : Type 0} {a : Layout R} (f : LawfulLayout a) (r : R) (rest : List ℤ) where
+  pub maker-long : a .size ≤ length (makerNumbers a r ++ rest)
+  maker-long = omega (arith, numbers-many f r, length-append (makerNumbers a r) rest)
 
-pub pirea-back : (r : CodeTold) (rest : List ℕ) → pireaAt (pireaNumbers r ++ rest) ≡ r
-pirea-back r rest = refl
+  pub maker-back : a .held r ≡ true → a .at (makerNumbers a r ++ rest) 0 ≡ r
+  maker-back h = numbers-back f [] r rest h

@@ -5,8 +5,9 @@ use mathlib.Core.List.{[], _++_, _∷_, List}
 use mathlib.Core.Bool.{Bool, cond, false, true}
 use native.Mathlib.Omega.{arith}
 use lib.Dec.{ltb}
-use lib.ListN.{drop, drop-of-length-le, length}
-use lib.Seq.{drop-drop, drop-length}
+use lib.IntN.{ℤ}
+use lib.ListN.{drop, drop-of-length-le, length, length-drop, take}
+use lib.Seq.{drop-drop, drop-length, take-all}
 use Rattle.digits.specs.Hex.{hexOf}
 use Rattle.form_mask.specs.Masks.{printHex}
 use Rattle.put.specs.Wrote.{Held, Puts}
@@ -21,10 +22,14 @@ marks-most f = go (ltb f 97)
     go true = omega arith
     go false = omega arith
 
-pub past-end : (l : List ℕ) (from k : ℕ) → length l - from < k → drop (length l) l ≡ drop k (drop from l)
+pub past-end : (l : List ℤ) (from k : ℕ) → length l - from < k → drop (length l) l ≡ drop k (drop from l)
 past-end l from k h =
     let over : length l ≤ from + k = omega arith in
     drop-length l ∙ sym (drop-drop k from l ∙ drop-of-length-le l over)
+
+-- A part of a slice, as the code takes it, from a place on.
+pub part-is : (ns : List ℤ) (n : ℕ) → take (length ns - n) (drop n ns) ≡ drop n ns
+part-is ns n = take-all (length ns - n) (drop n ns) (simp length-drop (omega arith))
 
 pub no-digits : (h : Held) (w v : ℕ) → w ≡ 0 → Puts h (printHex w v) h
 unfolding printHex

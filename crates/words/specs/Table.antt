@@ -4,6 +4,7 @@ use Prim.Native.Nat.{ℕ}
 use mathlib.Core.List.{List, [], _∷_, _++_}
 use mathlib.Core.Bool.{Bool, cond, _&&_, _||_, not}
 use lib.Dec.{eqb}
+use lib.IntN.{ℤ}
 use lib.ListN.{drop}
 use Rattle.words.specs.Forms.{takenBy, isSent, valueText}
 
@@ -12,15 +13,15 @@ use Rattle.words.specs.Forms.{takenBy, isSent, valueText}
 unfoldable pub isSilent : ℕ → ℕ → Bool
 isSilent q b = eqb b 37 || (eqb q 2 && not (eqb b 10))
 
-unfoldable pub stepText : ℕ → ℕ → List ℕ → List ℕ
+unfoldable pub stepText : ℕ → ℕ → List ℤ → List ℕ
 stepText q b ns = cond (eqb q 1) (valueText b ns) (cond (isSilent q b) [] (b ∷ []))
 
-unfoldable pub stepState : ℕ → ℕ → List ℕ → ℕ
+unfoldable pub stepState : ℕ → ℕ → List ℤ → ℕ
 stepState q b ns = cond (eqb q 1) (cond (isSent b ns) 0 2) (cond (eqb b 37) 1 (cond (isSilent q b) 2 0))
 
 unfoldable pub stepTaken : ℕ → ℕ → ℕ
 stepTaken q b = cond (eqb q 1) (takenBy b) 0
 
-unfoldable pub filled : ℕ → List ℕ → List ℕ → List ℕ
+unfoldable pub filled : ℕ → List ℕ → List ℤ → List ℕ
 filled q [] ns = []
 filled q (b ∷ table) ns = stepText q b ns ++ filled (stepState q b ns) table (drop (stepTaken q b) ns)

@@ -3,8 +3,10 @@ use Prim.Native.Nat.{ℕ, zero, suc, min}
 use mathlib.Core.List.{List, [], _++_}
 use mathlib.Core.Bool.{cond}
 use lib.Dec.{eqb, ltb}
-use lib.ListN.{getD, drop}
+use lib.IntN.{ℤ}
+use lib.ListN.{drop}
 use Rattle.digits.specs.Ascii.{ascii}
+use Rattle.slots.specs.Layout.{whole}
 use Rattle.words.specs.Nth.{nth}
 use Rattle.words.specs.Table.{filled}
 
@@ -36,7 +38,7 @@ tables =
 abbrev pub entryTable : List ℕ
 entryTable = ascii "satellite: %N\nelevation: %n degrees\nazimuth: %n degrees\nsignal: %n dB\n"
 
-unfoldable pub entriesText : ℕ → List ℕ → List ℕ
+unfoldable pub entriesText : ℕ → List ℤ → List ℕ
 entriesText zero ns = []
 entriesText (suc n) ns = filled 0 entryTable ns ++ entriesText n (drop 7 ns)
 
@@ -45,9 +47,9 @@ unfoldable pub talkersOf : ℕ → ℕ
 talkersOf kind = cond (ltb kind 8) 1 0
 
 -- The rows of a kind; of GSV also those of as many satellites as it says, and of no more than four. A kind that is none has no rows.
-unfoldable pub wordsText : ℕ → List ℕ → List ℕ
+unfoldable pub wordsText : ℕ → List ℤ → List ℕ
 wordsText kind ns =
-    filled 0 (nth 59 kind tables) (drop (talkersOf kind) ns) ++ cond (eqb kind 4) (entriesText (min 4 (getD ns 4 0)) (drop 5 ns)) []
+    filled 0 (nth 59 kind tables) (drop (talkersOf kind) ns) ++ cond (eqb kind 4) (entriesText (min 4 (whole .at ns 4)) (drop 5 ns)) []
 
 -- What a sentence is, by its kind from 1 on.
 abbrev pub kinds : List ℕ

@@ -19,7 +19,7 @@ fn few(count: u32) -> usize
 }
 
 // The rows of the satellites of a GSV.
-fn put_entries(out: &mut [u8], at: usize, numbers: &[u32], count: u32) -> usize
+fn put_entries(out: &mut [u8], at: usize, numbers: &[i64], count: u32) -> usize
     ensures { λ r. ⌜ Puts (held at (now (out .entry))) (entriesText (min 4 count) (drop 5 (now (numbers .entry))))
         (held r (now (out .exit))) ⌝ }
 {
@@ -44,7 +44,7 @@ fn talkers(kind: u32) -> usize
 
 // The fields of a sentence, a row each, by its kind and its numbers: `date: 2026-11-15`. A missing value is
 // `not sent`; a kind that is none has no rows.
-pub fn put_words(out: &mut [u8], at: usize, kind: u32, numbers: &[u32]) -> usize
+pub fn put_words(out: &mut [u8], at: usize, kind: u32, numbers: &[i64]) -> usize
     ensures { λ r. ⌜ Puts (held at (now (out .entry))) (wordsText kind (now (numbers .entry))) (held r (now (out .exit))) ⌝ }
 {
     let tables = b"\
@@ -70,7 +70,7 @@ pub fn put_words(out: &mut [u8], at: usize, kind: u32, numbers: &[u32]) -> usize
     let table = nth::nth_of(tables, b';', kind as usize);
     let a = table::put_table(out, at, table, numbers, talkers(kind));
     if kind == 4 {
-        return put_entries(out, a, numbers, slots::at(numbers, 4));
+        return put_entries(out, a, numbers, slots::whole_at(numbers, 4));
     }
     a
 }

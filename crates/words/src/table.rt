@@ -1,7 +1,6 @@
 // The rows of a table, put for numbers in the same order.
 ghost use mathlib.Core.Path.{_≡_};
-ghost use Prim.Native.Nat.{_≤_};
-ghost use lib.ListN.{length, drop};
+ghost use lib.ListN.{drop};
 ghost use Rattle.put.specs.Wrote.{held, Puts};
 ghost use Rattle.words.specs.Table.{isSilent, stepText, stepState, stepTaken, filled};
 use crate::form;
@@ -14,7 +13,7 @@ fn is_silent(q: u8, b: u8) -> bool
 }
 
 // What a byte of a table puts.
-fn put_step(out: &mut [u8], at: usize, q: u8, b: u8, numbers: &[u32]) -> usize
+fn put_step(out: &mut [u8], at: usize, q: u8, b: u8, numbers: &[i64]) -> usize
     ensures { λ r. ⌜ Puts (held at (now (out .entry))) (stepText q b (now (numbers .entry))) (held r (now (out .exit))) ⌝ }
 {
     if q == 1 {
@@ -27,7 +26,7 @@ fn put_step(out: &mut [u8], at: usize, q: u8, b: u8, numbers: &[u32]) -> usize
 }
 
 // The state that it leaves.
-fn state(q: u8, b: u8, numbers: &[u32]) -> u8
+fn state(q: u8, b: u8, numbers: &[i64]) -> u8
     ensures { λ r. ⌜ r ≡ stepState q b (now (numbers .entry)) ⌝ }
 {
     if q == 1 {
@@ -49,37 +48,26 @@ fn taken(q: u8, b: u8) -> usize
     0
 }
 
-// The place `k` further on; none is past the end.
-fn past(numbers: &[u32], from: usize, k: usize) -> usize
-    requires { ⌜ from ≤ length (now numbers) ⌝ }
-    ensures { λ r. ⌜ (r ≤ length (now (numbers .entry))) × (drop r (now (numbers .entry)) ≡ drop k (drop from (now (numbers .entry)))) ⌝ }
-{
-    if numbers.len() - from < k {
-        return numbers.len();
-    }
-    from + k
-}
-
 // Puts the rows of `table` for the numbers from place `from` on.
 pub(crate) fn put_table(
     out: &mut [u8],
     at: usize,
     table: &[u8],
-    numbers: &[u32],
+    numbers: &[i64],
     from: usize,
 ) -> usize
     ensures { λ r. ⌜ Puts (held at (now (out .entry))) (filled 0 (now (table .entry)) (drop from (now (numbers .entry))))
         (held r (now (out .exit))) ⌝ }
 {
     let mut a = at;
-    let mut n = past(numbers, 0, from);
+    let mut n = form::past(numbers, 0, from);
     let mut q: u8 = 0;
     let mut i: usize = 0;
     while i < table.len() {
         let b = table[i];
         let left = &numbers[n..];
         a = put_step(out, a, q, b, left);
-        n = past(numbers, n, taken(q, b));
+        n = form::past(numbers, n, taken(q, b));
         q = state(q, b, left);
         i += 1;
     }

@@ -7,12 +7,10 @@ use Rattle.hostrecords.proofs.read.Tie as tie
 
 returns : tie.Need-returns
 returns c =
-    let b2 = c .before .before in
-    let b5 = b2 .before .before .before in
-    let b7 = b5 .before .before in
-    let b10 = b7 .before .before .before in
-    told-is _ _ (b7 .read-line .ensures) (now (b10 .args .numbers)) (b5 .lay .ensures) (b2 .refusal-of .ensures)
-    (c .before .kind-of .ensures) (c .told-of .ensures)
+    let laid = c .before .before .before .before in
+    let read = laid .before .before in
+    told-is _ _ (read .read-line .ensures) (now (read .before .before .args .numbers)) (laid .lay .ensures)
+    (c .before .before .refusal-of .ensures) (c .before .kind-of .ensures) (c .told-of .ensures)
 
 pub read-spec : {M : Type 1} → statement M
 read-spec =

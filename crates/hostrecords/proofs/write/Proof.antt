@@ -1,58 +1,63 @@
 -- `write` meets its contract: the count of its kind decides first, then the address; a refusal leaves the output.
-use mathlib.Core.Path.{sym, _∙_}
+use mathlib.Core.Path.{_≡_, refl, sym, _∙_}
 use native.Mathlib.Omega.{arith}
 use denote.Ref.{now}
+use lib.ListN.{length}
 use Rattle.fromnumbers.proofs.Numbered.{too-few, enough}
-use Rattle.hostrecords.proofs.Handing.{written-is, handed}
+use Rattle.hostrecords.proofs.Handing.{written-is, handed, few-over, enough-over}
 use borrow.Author.Needs.{needs}
 use Rattle.hostrecords.proofs.write.Statement.{statement}
 use Rattle.hostrecords.proofs.write.Tie as tie
 
 returns : tie.Need-returns
-returns c = written-is (c .before .before .before .before .before .args .kind)
-    (now (c .before .before .before .before .before .args .numbers)) _
-    (too-few (c .before .before .before .before .before .args .kind) (now (c .before .before .before .before .before .args .numbers)) _
-    (c .before .before .count-of .ensures) (c .before .if1 .taken)) (now (c .before .before .before .before .before .args .out))
+returns c =
+    let s = c .before .before .before .before .args in
+    let n = now (s .numbers) in
+    let k = c .before .before .count-of .ensures in
+    let few = too-few (s .kind) n _ k (c .before .if1 .taken) in
+    written-is (s .kind) n _ few _ (few-over (s .kind) n (rw k at (c .before .if1 .taken))) (now (s .out))
     (handed 5 (λ z. omega (arith, z)) _ _ (c .refuse .ensures))
 
 returns-2 : tie.Need-returns-2
 returns-2 c =
-    let b2 = c .before .before in
-    let b5 = b2 .before .before .before in
-    let b7 = b5 .before .before in
-    let b8 = b7 .before in
-    let b9 = b8 .before in
-    let b10 = b9 .before in
-    let b13 = b10 .before .before .before in
-    written-is (b13 .args .kind) (now (b13 .args .numbers)) _
-    (enough (b13 .args .kind) (now (b13 .args .numbers)) _ (b10 .count-of .ensures) _
-    (sym (b5 .address .given .1) ∙ (b7 .address-at .ensures ∙ rw (b8 .at .ensures))) (b9 .if1 .left)) (now (b13 .args .out))
-    (b2 .standard .ensures)
+    let told = c .before .before .before .before .before in
+    let known = told .before .before in
+    let tested = known .before .before in
+    let s = tested .before .before .before .args in
+    let n = now (s .numbers) in
+    let k = tested .before .count-of .ensures in
+    let a =
+    sym (told .address .given .1) ∙ (rw (known .before .whole-at .ensures) at (known .address-at .ensures)) in
+    let rest = enough (s .kind) n _ k _ a (tested .if1 .left) in
+    written-is (s .kind) n _ rest _ (enough-over (s .kind) n _ a (rw k at (tested .if1 .left))) (now (s .out))
+    (c .before .before .standard .ensures)
 
 returns-3 : tie.Need-returns-3
 returns-3 c =
-    let b2 = c .before .before in
-    let b5 = b2 .before .before .before in
-    let b7 = b5 .before .before in
-    let b8 = b7 .before in
-    let b9 = b8 .before in
-    let b10 = b9 .before in
-    let b13 = b10 .before .before .before in
-    written-is (b13 .args .kind) (now (b13 .args .numbers)) _
-    (enough (b13 .args .kind) (now (b13 .args .numbers)) _ (b10 .count-of .ensures) _
-    (sym (b5 .address2 .given .1) ∙ (b7 .address-at .ensures ∙ rw (b8 .at .ensures))) (b9 .if1 .left)) (now (b13 .args .out))
-    (b2 .maker .ensures)
+    let told = c .before .before .before .before .before in
+    let known = told .before .before in
+    let tested = known .before .before in
+    let s = tested .before .before .before .args in
+    let n = now (s .numbers) in
+    let k = tested .before .count-of .ensures in
+    let a =
+    sym (told .address2 .given .1) ∙ (rw (known .before .whole-at .ensures) at (known .address-at .ensures)) in
+    let rest = enough (s .kind) n _ k _ a (tested .if1 .left) in
+    written-is (s .kind) n _ rest _ (enough-over (s .kind) n _ a (rw k at (tested .if1 .left))) (now (s .out))
+    (c .before .before .maker .ensures)
 
 returns-4 : tie.Need-returns-4
-returns-4 c = written-is (c .before .before .before .before .before .before .before .before .before .args .kind)
-    (now (c .before .before .before .before .before .before .before .before .before .args .numbers)) _
-    (enough (c .before .before .before .before .before .before .before .before .before .args .kind)
-    (now (c .before .before .before .before .before .before .before .before .before .args .numbers)) _
-    (c .before .before .before .before .before .before .count-of .ensures) _
-    (sym (c .before .enum-told .given .1)
-    ∙ (c .before .before .before .address-at .ensures ∙ rw (c .before .before .before .before .at .ensures)))
-    (c .before .before .before .before .before .if1 .left))
-    (now (c .before .before .before .before .before .before .before .before .before .args .out))
+returns-4 c =
+    let told = c .before in
+    let known = told .before .before in
+    let tested = known .before .before in
+    let s = tested .before .before .before .args in
+    let n = now (s .numbers) in
+    let k = tested .before .count-of .ensures in
+    let a =
+    sym (told .enum-told .given .1) ∙ (rw (known .before .whole-at .ensures) at (known .address-at .ensures)) in
+    let rest = enough (s .kind) n _ k _ a (tested .if1 .left) in
+    written-is (s .kind) n _ rest _ (enough-over (s .kind) n _ a (rw k at (tested .if1 .left))) (now (s .out))
     (handed 3 (λ z. omega (arith, z)) _ _ (c .refuse2 .ensures))
 
 pub write-spec : {M : Type 1} → statement M

@@ -10,22 +10,22 @@ returns : tie.Need-returns
 returns c =
     let b2 = c .before .before in
     let b4 = b2 .before .before in
-    let b9 = b4 .before .before .before .before .before in
-    as-text (unknown (b9 .args .r) (b9 .args .line .now) (b4 .if1 .taken)) (b2 .put .ensures)
+    let b7 = b4 .before .before .before in
+    as-text (unknown (b7 .args .no) (b7 .args .line .now) (b4 .if1 .taken)) (b2 .put .ensures)
 
 returns-2 : tie.Need-returns-2
 returns-2 c =
-    let b6 = c .before .before .before .before .before .before in
-    as-text (too-short (b6 .args .r) (b6 .args .line .now) (c .before .if1 .left) (c .if2 .taken))
-    (nothing-put (held (b6 .args .at) (b6 .args .out .now)))
+    let b4 = c .before .before .before .before in
+    as-text (too-short (b4 .args .no) (b4 .args .line .now) (c .before .if1 .left) (c .if2 .taken))
+    (nothing-put (held (b4 .args .at) (b4 .args .out .now)))
 
 returns-3 : tie.Need-returns-3
 returns-3 c =
     let b2 = c .before .before in
     let b5 = b2 .before .before .before in
     let b6 = b5 .before in
-    let b11 = b6 .before .before .before .before .before in
-    as-text (the-five (b11 .args .r) (b11 .args .line .now) (b6 .if1 .left) (b5 .if2 .left)) (b2 .put-bytes .ensures)
+    let b9 = b6 .before .before .before in
+    as-text (the-five (b9 .args .no) (b9 .args .line .now) (b6 .if1 .left) (b5 .if2 .left)) (b2 .put-bytes .ensures)
 
 pub put-address-spec : {M : Type 1} → statement M
 put-address-spec =

@@ -9,19 +9,19 @@ returns : tie.Need-returns
 returns c =
     let b2 = c .before .before in
     let b5 = b2 .before .before .before in
-    let b8 = b5 .before .before .before in
-    as-text (was-read (b8 .args .r) (b5 .if1 .taken)) (b2 .put-bytes .ensures)
+    let b7 = b5 .before .before in
+    as-text (was-read (b7 .args .no) (b7 .args .field) (b5 .if1 .taken)) (b2 .put-bytes .ensures)
 
 returns-2 : tie.Need-returns-2
 returns-2 c =
     let b2 = c .before .before in
     let b6 = b2 .before .before .before .before in
     let b10 = b6 .before .before .before .before in
-    let b15 = b10 .before .before .before .before .before in
-    let b18 = b15 .before .before .before in
-    let b21 = b18 .before .before .before in
-    as-text (was-refused (b21 .args .r) (b18 .if1 .left))
-    (b15 .put-bytes2 .ensures ⨾ (b10 .put-number .ensures ⨾ (b6 .put .ensures ⨾ b2 .put-number2 .ensures)))
+    let b14 = b10 .before .before .before .before in
+    let b17 = b14 .before .before .before in
+    let b19 = b17 .before .before in
+    as-text (was-refused (b19 .args .no) (b19 .args .field) (b17 .if1 .left))
+    (b14 .put-bytes2 .ensures ⨾ (b10 .put-number .ensures ⨾ (b6 .put .ensures ⨾ b2 .put-number2 .ensures)))
 
 pub put-answer-spec : {M : Type 1} → statement M
 put-answer-spec =
@@ -33,7 +33,6 @@ put-answer-spec =
     returns
     (λ c. search needs)
     (λ c κs. search needs)
-    (λ c. search needs)
     (λ c κs. search needs)
     (λ c κs. search needs)
     (λ c κs. search needs)

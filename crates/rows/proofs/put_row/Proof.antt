@@ -13,15 +13,15 @@ returns c =
     let b18 = b14 .before .before .before .before in
     let b22 = b18 .before .before .before .before in
     let b26 = b22 .before .before .before .before in
-    let b28 = b26 .before .before in
-    let e = b28 .refusal-of .ensures in b26 .put-number .ensures ⨾ (b22 .put .ensures ⨾ (rw e at (b18 .put-address .ensures)))
-    ⨾ (b14 .put2 .ensures ⨾ (rw e at (b10 .put-answer .ensures))) ⨾ b6 .put-asked .ensures ⨾ b2 .put3 .ensures
+    b26 .put-number .ensures
+    ⨾ (b22 .put .ensures ⨾ b18 .put-address .ensures)
+    ⨾ (b14 .put2 .ensures ⨾ b10 .put-answer .ensures)
+    ⨾ b6 .put-asked .ensures ⨾ b2 .put3 .ensures
 
 pub put-row-spec : {M : Type 1} → statement M
 put-row-spec =
     tie.close
     (tie.spec
-    (λ c κs. search needs)
     (λ c κs. search needs)
     (λ c κs. search needs)
     (λ c κs. search needs)

@@ -1,95 +1,63 @@
--- The places before place i are stored behind talker and count; the laws stand in Laying.
-use Prim.Native.Nat.{_*_, _+_, _-_, _≤_}
-use mathlib.Core.Path.{_∙_, _≡_}
+-- Talker and count, and the entries behind them, are the numbers of the table.
+use Prim.Native.Nat.{_≤_}
+use mathlib.Core.Path.{_≡_, refl, sym, ap, _∙_}
+use mathlib.Core.List.{List}
 use native.Mathlib.Omega.{arith}
 use borrow.Author.Needs.{needs}
-use lib.ListN.{length, length-set}
-use Rattle.sky_write.proofs.Counts.{length-mapped}
-use Rattle.skynumbers.proofs.Laying.{headed-long, laid-short, laid-whole, Stored, stored-all, stored-long, stored-next, stored-none}
+use borrow.Author.Tests.{le-leb, lt-leb}
+use lib.IntN.{ℤ}
+use lib.ListN.{length}
+use mir.Syntax.{w64}
+use mir.ValLaws.{toZ-pos}
+use Rattle.slots.specs.Slots.{laid}
+use Rattle.slots.proofs.Laying.{length-mapped, laid-not, laid-two}
+use Rattle.slots.proofs.Rows.{_⋮_, talker-is}
+use Rattle.skynumbers.specs.Numbers.{skyNumbers}
+use Rattle.skynumbers.proofs.Laying.{skyFirst, places, sky-parts, places-long, sky-long}
 use Rattle.skynumbers.proofs.lay.Statement.{statement}
 use Rattle.skynumbers.proofs.lay.Tie as tie
 
-abbrev Inv-loop : tie.InvT-loop
-Inv-loop first r i₀ out i = Stored (r .entries) first i out
+full : (c : tie.Start) → length (c .args .r .entries) ≡ 36
+full c = search (needs, length-mapped)
 
-abbrev μ-loop : tie.MeasureT-loop
-μ-loop first r i₀ out i = 36 - i
-
-returns : tie.Need-returns Inv-loop μ-loop
+returns : tie.Need-returns
 returns c =
-    let full : length (c .before .before .args .t3 .entries) ≡ 36 = search (needs, length-mapped) in
-    laid-short (c .before .before .args .t) (c .before .before .args .t3) full (c .before .before .args .out .now) (c .if1 .taken)
+    let s = c .before .args in
+    let long = sky-long (s .t) (s .r) (full (c .before)) in (
+      sym (lt-leb 254 (length (s .out .now)) (c .if1 .taken)),
+      sym (laid-not (skyNumbers (s .t) (s .r)) (s .out .now) (omega (arith, long, c .if1 .taken))),
+    )
 
-cast-out : tie.Need-cast-out Inv-loop μ-loop
-cast-out c = omega (arith, c .before .before .before .pre)
-
-slice-write-out-2 : tie.Need-slice-write-out-2 Inv-loop μ-loop
-slice-write-out-2 c = omega (
-  arith,
-  length-set (c .before .before .before .args .out .now) 0 (c .talker-number .result),
-  c .before .if1 .left,
-)
-
-loop-holds : tie.Need-loop-holds Inv-loop μ-loop
-loop-holds c =
-    let full : length (c .before .before .before .args .t3 .entries) ≡ 36 = search (needs, length-mapped) in
-    let long = headed-long (c .before .before .before .args .t) (c .before .before .before .args .t3) full
-    (c .before .before .before .args .out .now) (c .talker-number .result) in
-    stored-none (c .before .before .before .args .t3 .entries) full _ (omega (arith, long, c .before .if1 .left))
-
-inside : (c : tie.In-loop Inv-loop μ-loop) → 2 + 7 * c .before .loop .i ≤ length (c .before .loop .out)
-inside c =
-    let full : length (c .before .before .before .before .before .args .t3 .entries) ≡ 36 = search (needs, length-mapped) in
-    let long = stored-long (c .before .before .before .before .before .args .t3 .entries) full _ (c .before .loop .inv) in
-    let room = c .before .loop .inv .room in
-    omega (arith, long, room, c .loop-test .taken)
-
-loop-again : tie.Need-loop-again Inv-loop μ-loop
-loop-again c =
-    let full : length (c .before .before .before .before .before .before .before .before .before .before .args .t3 .entries) ≡ 36 =
-    search (needs, length-mapped) in
-    stored-next (c .before .before .before .before .before .before .before .before .before .before .args .t3 .entries) full _
-    (c .before .before .before .before .before .before .loop .inv) (c .before .before .before .before .before .loop-test .taken)
-    (c .before .before .lay-entry .ensures)
-
-same-length : tie.Need-same-length Inv-loop μ-loop
-same-length c =
-    let full : length (c .before .before .before .before .before .args .t3 .entries) ≡ 36 = search (needs, length-mapped) in
-    stored-long (c .before .before .before .before .before .args .t3 .entries) full _ (c .before .loop .inv)
-    ∙ headed-long (c .before .before .before .before .before .args .t) (c .before .before .before .before .before .args .t3) full
-    (c .before .before .before .before .before .args .out .now) (c .before .before .talker-number .result)
-
-returns-2 : tie.Need-returns-2 Inv-loop μ-loop
+returns-2 : tie.Need-returns-2
 returns-2 c =
-    let full : length (c .before .before .before .before .before .args .t3 .entries) ≡ 36 = search (needs, length-mapped) in
-    laid-whole (c .before .before .before .before .before .args .t) (c .before .before .before .before .before .args .t3) full
-    (c .before .before .before .before .before .args .out .now) (c .before .before .before .if1 .left)
-    (c .before .before .talker-number .ensures)
-    (stored-all (c .before .before .before .before .before .args .t3 .entries) full _ (c .before .loop .inv) (c .loop-test .left))
+    let b4 = c .before .before .before .before in
+    let at-talker = b4 .before .before .before .before .before in
+    let start = at-talker .before .before in
+    let s = start .args in
+    let r = s .r in
+    let room = at-talker .before .if1 .left in
+    let small : r .count ≤ 36 = start .pre in
+    let first = talker-is (s .t) _ (at-talker .talker-number .ensures) ⋮ toZ-pos w64 (r .count) (omega (arith, small)) ⋮ refl in
+    let two =
+    laid-two (skyFirst (s .t) r) (places r) (s .out .now) 2 refl (omega (arith, places-long (s .t) r (full start), room)) _
+    (b4 .lay .ensures .1 ∙ ap (λ (l : List ℤ). laid l (s .out .now)) first) (c .before .lay-entries .ensures) in (
+      sym (le-leb 254 (length (s .out .now)) room),
+      two ∙ ap (λ (l : List ℤ). laid l (s .out .now)) (sky-parts (s .t) r (full start)),
+    )
 
 pub lay-spec : {M : Type 1} → statement M
 lay-spec =
     tie.close
     (tie.spec
-    Inv-loop
-    μ-loop
     returns
     (λ c κs. search needs)
-    (λ c. omega arith)
-    cast-out
-    slice-write-out-2
-    loop-holds
-    (λ c. omega arith)
-    (λ c. omega arith)
-    (λ c. omega arith)
-    (λ c. inside c)
-    (λ c. inside c)
     (λ c. search needs)
-    (λ c. omega arith)
-    (λ c. omega arith)
+    (λ c. search needs)
+    (λ c. search needs)
     (λ c κs. search needs)
-    (λ c. omega arith)
-    (λ c. omega arith)
-    loop-again
-    same-length
+    (λ c. search needs)
+    (λ c. search needs)
+    (λ c. search needs)
+    (λ c κs. search needs)
+    (λ c. search needs)
     returns-2)

@@ -3,7 +3,7 @@ use Prim.Native.Nat.{_-_}
 use mathlib.Core.Path.{refl}
 use native.Mathlib.Omega.{arith}
 use borrow.Author.Needs.{needs}
-use Rattle.skynumbers.specs.Numbers.{tableAt}
+use Rattle.skynumbers.specs.Numbers.{tableLayout}
 use Rattle.skynumbers.proofs.Taking.{Taken, taken-none, taken-next, taken-all}
 use Rattle.skynumbers.proofs.table_at.Statement.{statement}
 use Rattle.skynumbers.proofs.table_at.Tie as tie
@@ -15,20 +15,18 @@ abbrev μ-loop : tie.MeasureT-loop
 μ-loop numbers entries₀ i₀ entries i = 36 - i
 
 loop-holds : tie.Need-loop-holds Inv-loop μ-loop
-loop-holds c = taken-none (c .before .before .args .numbers .now) _ refl
+loop-holds c = taken-none (c .before .args .numbers .now) _ refl
 
 loop-again : tie.Need-loop-again Inv-loop μ-loop
 loop-again c =
-    let b2 = c .before .before in
-    let b5 = b2 .before .before .before in
-    taken-next (b5 .args .numbers .now) (b2 .loop .inv) (c .before .loop-test .taken) (c .entry-at .ensures)
+    let l = c .before .before in
+    taken-next (l .before .before .args .numbers .now) (l .loop .inv) (c .before .loop-test .taken) (c .entry2 .ensures)
 
 returns : tie.Need-returns Inv-loop μ-loop
-unfolding tableAt
+unfolding tableLayout
 returns c =
-    let b2 = c .before .before in
-    let b5 = b2 .before .before .before in
-    rw (c .at .ensures, taken-all (b5 .args .numbers .now) (b2 .loop .inv) (c .before .loop-test .left))
+    let l = c .before .before in
+    rw (c .whole-at .ensures, taken-all (l .before .before .args .numbers .now) (l .loop .inv) (c .before .loop-test .left))
 
 pub table-at-spec : {M : Type 1} → statement M
 table-at-spec =
@@ -40,7 +38,8 @@ table-at-spec =
     loop-holds
     (λ c. omega arith)
     (λ c. omega arith)
-    (λ c κs. omega arith)
+    (λ c. omega arith)
+    (λ c κs. search needs)
     (λ c. omega arith)
     (λ c. omega arith)
     (λ c. omega arith)

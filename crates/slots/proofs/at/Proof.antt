@@ -1,5 +1,6 @@
 -- Past the end there is no number.
 use mathlib.Core.Path.{sym}
+use lib.IntN.{pos}
 use lib.ListN.{List·getD-eq-default}
 use borrow.Author.Needs.{needs}
 use Rattle.slots.proofs.at.Statement.{statement}
@@ -8,14 +9,14 @@ use Rattle.slots.proofs.at.Tie as tie
 mul-result : tie.Need-mul-result
 mul-result c = search needs
 
-shared-slice-read-result : tie.Need-shared-slice-read-result
-shared-slice-read-result c = search needs
+shared-slice-copy-out-result : tie.Need-shared-slice-copy-out-result
+shared-slice-copy-out-result c = search needs
 
 returns : tie.Need-returns
 returns c = search needs
 
 returns-2 : tie.Need-returns-2
-returns-2 c = sym (List·getD-eq-default (c .before .args .numbers .now) 0 (c .if1 .left))
+returns-2 c = sym (List·getD-eq-default (c .before .args .numbers .now) (pos 0) (c .if1 .left))
 
 pub at-spec : {M : Type 1} → statement M
-at-spec = tie.close (tie.spec mul-result shared-slice-read-result returns returns-2)
+at-spec = tie.close (tie.spec mul-result shared-slice-copy-out-result returns returns-2)

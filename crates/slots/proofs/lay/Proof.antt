@@ -5,22 +5,32 @@ use mathlib.Core.Path.{_≡_, sym, _∙_, ap}
 use mathlib.Core.List.{List, _++_}
 use native.Mathlib.Omega.{arith}
 use native.Mathlib.Numerals.{add-one}
+use lib.IntN.{ℤ, pos}
 use lib.ListN.{length, take, drop, set, getD}
+use mir.Syntax.{w64}
+use mir.Val.{SFits, ofZ, toZ}
+use mir.Facts.{toZ-ofZ}
+use borrow.Author.Needs.{needs}
 use lib.Seq.{paste, paste-zero, paste-suc, length-paste, take-length}
 use borrow.Author.Tests.{le-leb, lt-leb}
 use Rattle.slots.specs.Slots.{laid}
 use Rattle.slots.proofs.lay.Statement.{statement}
 use Rattle.slots.proofs.lay.Tie as tie
 
-less : (o v : List ℕ) (i : ℕ) → length v ≤ length o → i < length v → i < length (paste o 0 v i)
+less : (o v : List ℤ) (i : ℕ) → length v ≤ length o → i < length v → i < length (paste o 0 v i)
 less o v i a h = rw (length-paste o 0 v i (omega arith) (omega arith)) (omega arith)
 
-next : (o v : List ℕ) (i : ℕ) → length v ≤ length o → i < length v → set (paste o 0 v i) i (getD v i 0) ≡ paste o 0 v (suc i)
-next o v i a h = ap (λ (k : ℕ). set (paste o 0 v i) k (getD v i 0)) (sym (zero-add i)) ∙ paste-suc o 0 v i 0 (omega arith) h
+next : (o v : List ℤ) (i : ℕ) → SFits w64 (getD v i (pos 0)) → length v ≤ length o → i < length v
+    → set (paste o 0 v i) i (toZ w64 (ofZ w64 (getD v i (pos 0)))) ≡ paste o 0 v (suc i)
+next o v i f a h =
+    ap (set (paste o 0 v i) i) (toZ-ofZ f)
+    ∙ ap (λ (k : ℕ). set (paste o 0 v i) k (getD v i (pos 0))) (sym (zero-add i))
+    ∙ paste-suc o 0 v i (pos 0) (omega arith) h
 
-whole : (o v : List ℕ) → paste o 0 v (length v) ≡ v ++ drop (length v) o
-whole o v = ap (λ (k : ℕ). take (length v) v ++ drop k o) (zero-add (length v))
-    ∙ ap (λ (x : List ℕ). x ++ drop (length v) o) (take-length v)
+whole : (o v : List ℤ) → paste o 0 v (length v) ≡ v ++ drop (length v) o
+whole o v =
+    ap (λ (k : ℕ). take (length v) v ++ drop k o) (zero-add (length v))
+    ∙ ap (λ (x : List ℤ). x ++ drop (length v) o) (take-length v)
 
 abbrev Inv-loop : tie.InvT-loop
 Inv-loop out₀ values i₀ out i = (i ≤ length values) × (length values ≤ length out₀) × (out ≡ paste out₀ 0 values i)
@@ -30,7 +40,9 @@ abbrev μ-loop : tie.MeasureT-loop
 
 returns : tie.Need-returns Inv-loop μ-loop
 unfolding laid
-returns c = let e = lt-leb (length (c .before .args .values .now)) (length (c .before .args .out .now)) (c .if1 .taken) in (sym e, rw e)
+returns c =
+    let e = lt-leb (length (c .before .args .values .now)) (length (c .before .args .out .now)) (c .if1 .taken) in
+    (sym e, rw e)
 
 loop-holds : tie.Need-loop-holds Inv-loop μ-loop
 loop-holds c = (omega arith, omega (arith, c .if1 .left), paste-zero (c .before .args .out .now) 0 (c .before .args .values .now))
@@ -38,17 +50,17 @@ loop-holds c = (omega arith, omega (arith, c .if1 .left), paste-zero (c .before 
 mul-out : tie.Need-mul-out Inv-loop μ-loop
 mul-out c = omega arith
 
-shared-slice-read-out : tie.Need-shared-slice-read-out Inv-loop μ-loop
-shared-slice-read-out c = omega arith
+shared-slice-copy-out-out : tie.Need-shared-slice-copy-out-out Inv-loop μ-loop
+shared-slice-copy-out-out c = omega arith
 
-mul-out-2 : tie.Need-mul-out-2 Inv-loop μ-loop
-mul-out-2 c = omega arith
+mul-t11 : tie.Need-mul-t11 Inv-loop μ-loop
+mul-t11 c = omega arith
 
-slice-write-out : tie.Need-slice-write-out Inv-loop μ-loop
-slice-write-out c =
-    let b2 = c .before .before in
-    let b4 = b2 .before .before in
-    let l = b2 .loop in rw (l .inv .2) (less (b4 .args .out .now) (b4 .args .values .now) (l .i) (l .inv .1) (c .before .loop-test .taken))
+slice-set-from-out : tie.Need-slice-set-from-out Inv-loop μ-loop
+slice-set-from-out c =
+    let s = c .before .before .before .before .args in
+    let l = c .before .before .loop in
+    rw (l .inv .2) (less (s .out .now) (s .values .now) (l .i) (l .inv .1) (c .before .loop-test .taken))
 
 add-i : tie.Need-add-i Inv-loop μ-loop
 add-i c = omega arith
@@ -62,13 +74,13 @@ loop-again c =
     let v = c .before .before .before .before .args .values .now in
     let l = c .before .before .loop in
     let h = c .before .loop-test .taken in
-    (omega (arith, h), l .inv .1, rw (l .inv .2, add-one (l .i)) (next o v (l .i) (l .inv .1) h))
+    (omega (arith, h), l .inv .1, rw (l .inv .2, add-one (l .i)) (next o v (l .i) (search needs) (l .inv .1) h))
 
 same-length : tie.Need-same-length Inv-loop μ-loop
 same-length c =
+    let s = c .before .before .before .args in
     let l = c .before .loop in
-    rw (l .inv .2) (length-paste (c .before .before .before .args .out .now) 0 (c .before .before .before .args .values .now) (l .i)
-    (omega (arith, l .inv .0, l .inv .1)) (l .inv .0))
+    rw (l .inv .2) (length-paste (s .out .now) 0 (s .values .now) (l .i) (omega (arith, l .inv .0, l .inv .1)) (l .inv .0))
 
 returns-2 : tie.Need-returns-2 Inv-loop μ-loop
 unfolding laid
@@ -89,9 +101,9 @@ lay-spec =
     returns
     loop-holds
     mul-out
-    shared-slice-read-out
-    mul-out-2
-    slice-write-out
+    shared-slice-copy-out-out
+    mul-t11
+    slice-set-from-out
     add-i
     loop-less
     loop-again

@@ -26,8 +26,8 @@ loop-again c = (
         move-next (c .before .before .before .before .args .a) (c .before .before .before .loop .i)
             (c .before .before .before .before .args .buf .now)
             (omega (arith, c .before .before .before .loop .inv .0, c .before .before .before .loop .inv .1 .1 .1 .0, c .before .if1 .left))
-            (c .before .before .before .loop .buf) (c .before .before .before .loop .from) (c .before .before .before .loop .inv .1 .1 .1 .1)
-            (c .before .before .before .loop .inv .0),
+            (c .before .before .before .loop .buf) (c .before .before .before .loop .from)
+            (c .before .before .before .loop .inv .1 .1 .1 .1) (c .before .before .before .loop .inv .0),
       ),
     ),
   ),

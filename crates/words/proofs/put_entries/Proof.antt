@@ -22,24 +22,20 @@ loop-holds : tie.Need-loop-holds Inv-loop μ-loop
 loop-holds c = (omega (arith, c .few .ensures), (refl, rw (c .few .ensures)))
 
 loop-again : tie.Need-loop-again Inv-loop μ-loop
-loop-again c = (
-  omega arith,
-  (
-    omega arith,
-    entries-next
-        (c .before .before .before .before .before .before .before .before .before .before .before .args .numbers .now)
-        (c .before .before .before .before .before .before .before .loop .left)
-        (c .before .before .before .before .before .before .before .loop .from)
-        (c .before .before .before .before .before .before .loop-test .taken) (c .before .before .put-table .ensures) ∙
-        c .before .before .before .before .before .before .before .loop .inv .1 .1,
-  ),
-)
+loop-again c =
+    let b2 = c .before .before in
+    let b6 = b2 .before .before .before .before in
+    let b7 = b6 .before in
+    let b10 = b7 .before .before .before in
+    let l = b7 .loop in
+    let next = entries-next (b10 .args .numbers .now) (l .left) (l .from) (b6 .loop-test .taken) (b2 .put-table .ensures) in
+    (omega arith, (omega arith, next ∙ l .inv .1 .1))
 
 returns : tie.Need-returns Inv-loop μ-loop
-returns c = record {
-  is = entries-end (c .before .before .before .before .before .args .numbers .now) (c .before .loop .left)
-      (c .before .loop .from) (held (c .before .loop .a) (c .before .loop .out)) (c .loop-test .left) ∙ c .before .loop .inv .1 .1;
-}
+returns c =
+    let l = c .before .loop in
+    let s = c .before .before .before .before .args in
+    record { is = entries-end (s .numbers .now) (l .left) (l .from) (held (l .a) (l .out)) (c .loop-test .left) ∙ l .inv .1 .1 }
 
 pub put-entries-spec : {M : Type 1} → statement M
 put-entries-spec =

@@ -2,8 +2,7 @@
 
 use crate::lent::{refused, touched, Lent};
 use crate::words;
-use castanwel::numbers;
-use castanwel::Settings;
+use castanwel::numbers::{self, SETTINGS};
 
 /// How many bytes there are to write a reply to.
 const ROOM: usize = 200;
@@ -16,13 +15,12 @@ pub fn step(rest: &[u8]) -> Option<String> {
     let blank = rest.iter().rposition(|&b| b == b' ')?;
     let given = words::numbers(&rest[..blank])?;
     let command = words::bytes_or_none(&rest[blank + 1..], MOST)?;
-    let cells = Settings::cells();
-    let before = words::in_cells(given.get(2..)?, &cells)?;
+    let before = words::values(given.get(2..)?, SETTINGS)?;
     let mut lent = Lent::new(ROOM, given[1].room(ROOM)?);
     let mut settings = before.clone();
     let reply = numbers::step(&mut settings, given[0].plain(), &command, lent.room());
     Some(match reply {
-        Ok(_) => lent.answer(reply) + &words::text_of(&settings, &cells),
+        Ok(_) => lent.answer(reply) + &words::text_of(&settings),
         Err(_) if settings != before => touched(),
         Err(_) => lent.answer(reply),
     })
@@ -30,7 +28,7 @@ pub fn step(rest: &[u8]) -> Option<String> {
 
 /// The satellites that the settings of a row allow.
 pub fn counts(rest: &[u8]) -> Option<String> {
-    let settings = words::in_cells(&words::numbers(rest)?, &Settings::cells())?;
+    let settings = words::values(&words::numbers(rest)?, SETTINGS)?;
     Some(match numbers::counts(&settings) {
         Ok((gps, glonass)) => format!("ok {} {}", gps, glonass),
         Err(refusal) => refused(refusal),

@@ -44,13 +44,13 @@ impl Lent {
 }
 
 /// What stands in lent numbers before a line or a group is read to them.
-pub const STALE: u32 = 0xAAAA_AAAA;
+pub const STALE: i64 = 0x5555_5555_5555_5555;
 
 /// What stands in lent numbers before an index is read to them.
 pub const STALE_WIDE: u64 = 0xAAAA_AAAA_AAAA_AAAA;
 
 /// Whether lent numbers are as they were.
-pub fn is_stale(numbers: &[u32]) -> bool {
+pub fn is_stale(numbers: &[i64]) -> bool {
     numbers.iter().all(|&number| number == STALE)
 }
 

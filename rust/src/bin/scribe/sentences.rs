@@ -24,19 +24,19 @@ pub fn record(row: &[u8]) -> Option<String> {
     let given = words::numbers(row[5..].strip_prefix(b" ")?)?;
     let (room, given) = given.split_first()?;
     let mut lent = Lent::new(ROOM, room.room(ROOM)?);
-    let mut numbers: Vec<u32> = talker.iter().map(|&talker| talker as u32).collect();
-    numbers.extend(words::in_cells(given, &kind.cells()[numbers.len()..])?);
+    let mut numbers: Vec<i64> = talker.iter().map(|&talker| talker as i64).collect();
+    numbers.extend(words::values(given, kind.cells().len() - numbers.len())?);
     let written = numbers::write(kind.number(), &numbers, lent.room());
     Some(lent.answer(written))
 }
 
 /// The address of a kind and the numbers of its record.
-fn read_as(kind: u32, numbers: &[u32]) -> Option<String> {
+fn read_as(kind: u32, numbers: &[i64]) -> Option<String> {
     let kind = Kind::from_number(kind)?;
-    let cells = kind.cells();
+    let count = kind.cells().len();
     let own = usize::from(kind.has_talker());
     let talker = if own == 1 { Talker::ALL.get(numbers[0] as usize)?.word() } else { "" };
-    Some(format!("ok {}{}{}", talker, kind.word(), words::text_of(&numbers[own..], &cells[own..])))
+    Some(format!("ok {}{}{}", talker, kind.word(), words::text_of(&numbers[own..count])))
 }
 
 /// The line of a row, `HEX`, read; `touched` where a refusal changed a number, or a reading one past the record.

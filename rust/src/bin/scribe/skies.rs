@@ -3,7 +3,7 @@
 use crate::lent::{is_stale, refused, touched, Lent, STALE};
 use crate::words::{self, MOST};
 use castanwel::numbers::{self, GROUP};
-use castanwel::{Table, Talker};
+use castanwel::Talker;
 
 /// How many bytes there are to write a group to.
 const ROOM: usize = 800;
@@ -12,13 +12,13 @@ const ROOM: usize = 800;
 const ENTRY: usize = 7;
 
 /// Talker, count and satellites of a sky; nothing where a place that is not used is not blank.
-fn read_as(numbers: &[u32]) -> Option<String> {
+fn read_as(numbers: &[i64]) -> Option<String> {
     let talker = Talker::ALL.get(numbers[0] as usize)?.word();
     let end = 2 + ENTRY * numbers[1] as usize;
     if numbers.get(end..)?.iter().any(|&number| number != 0) {
         return None;
     }
-    Some(format!("ok {}{}", talker, words::text_of(&numbers[1..end], &Table::cells())))
+    Some(format!("ok {}{}", talker, words::text_of(&numbers[1..end])))
 }
 
 /// The group of a row, `HEX`, read.
@@ -39,8 +39,8 @@ pub fn table(rest: &[u8]) -> Option<String> {
     let given = words::numbers(rest[2..].strip_prefix(b" ")?)?;
     let (room, given) = given.split_first()?;
     let mut lent = Lent::new(ROOM, room.room(ROOM)?);
-    let mut numbers = vec![talker as u32];
-    numbers.extend(words::in_cells(given, &Table::cells())?);
+    let mut numbers = vec![talker as i64];
+    numbers.extend(words::values(given, GROUP - 1)?);
     let written = numbers::write_group(&numbers, lent.room());
     Some(lent.answer(written))
 }

@@ -3,7 +3,6 @@
 use crate::lent::Lent;
 use crate::words::{self, Number};
 use crate::{answer, answer_all, answers, BUFFER};
-use castanwel::numbers::Cell;
 use castanwel::Refusal;
 use std::io::{self, Read};
 
@@ -108,18 +107,17 @@ fn rows_that_are_none() {
 
 #[test]
 fn numbers_of_words() {
-    let cell = |word: &str, cell| Number::of(word.as_bytes()).map(|number| number.in_cell(cell));
+    let value = |word: &str| Number::of(word.as_bytes()).map(|number| number.value);
     for none in ["", "-", "+1", "1 ", "--1", "0x1", "1.0"] {
-        assert_eq!(cell(none, Cell::Plain), None, "{:?}", none);
+        assert_eq!(value(none), None, "{:?}", none);
     }
-    assert_eq!(cell("4294967296", Cell::Plain), Some(u32::MAX));
-    assert_eq!(cell("-1", Cell::Plain), Some(u32::MAX));
-    assert_eq!(cell("-0", Cell::Plain), Some(0));
-    assert_eq!(cell("-2147483649", Cell::Signed), Some(i32::MIN as u32));
-    assert_eq!(cell("2147483648", Cell::Signed), Some(i32::MAX as u32));
-    assert_eq!(cell("0", Cell::Mark), Some(0));
-    assert_eq!(cell("-0", Cell::Mark), Some(1));
-    assert_eq!(cell("9", Cell::Mark), Some(1));
+    assert_eq!(value("4294967296"), Some(4_294_967_296));
+    assert_eq!(value("-1"), Some(-1));
+    assert_eq!(value("-0"), Some(0));
+    assert_eq!(value("9223372036854775808"), Some(i64::MAX));
+    assert_eq!(value("-9223372036854775809"), Some(-i64::MAX));
+    assert_eq!(Number::of(b"-1").map(Number::plain), Some(u32::MAX));
+    assert_eq!(Number::of(b"4294967296").map(Number::plain), Some(u32::MAX));
 }
 
 #[test]

@@ -1,16 +1,15 @@
 //! The words of a row: numbers, talkers, and bytes in hex digits.
 
-use castanwel::numbers::Cell;
 use castanwel::Talker;
 
 /// The most bytes of a line, a group or an index that a row has.
 pub const MOST: usize = 32768;
 
-/// A whole number of a row: a minus or none, and its size, 4294967295 where it is more.
+/// A whole number of a row, and whether a minus stands before it; the nearest of 64 bits where it is past them.
 #[derive(Clone, Copy, Debug, PartialEq, Eq)]
 pub struct Number {
     minus: bool,
-    size: u32,
+    pub value: i64,
 }
 
 impl Number {
@@ -23,32 +22,14 @@ impl Number {
         if digits.is_empty() || !digits.iter().all(u8::is_ascii_digit) {
             return None;
         }
-        let longer = |size: u32, digit: &u8| size.saturating_mul(10).saturating_add(u32::from(digit - b'0'));
-        Some(Number { minus, size: digits.iter().fold(0, longer) })
+        let longer = |size: i64, digit: &u8| size.saturating_mul(10).saturating_add(i64::from(digit - b'0'));
+        let size = digits.iter().fold(0, longer);
+        Some(Number { minus, value: if minus { -size } else { size } })
     }
 
-    /// The number as a value without a sign; 4294967295 where it is none.
+    /// The number as one of 32 bits without a sign; 4294967295 where it is none.
     pub fn plain(self) -> u32 {
-        if self.minus && self.size > 0 {
-            return u32::MAX;
-        }
-        self.size
-    }
-
-    /// The number as a value with a sign; the nearest where it is none.
-    fn signed(self) -> i32 {
-        let size = i64::from(self.size);
-        let value = if self.minus { -size } else { size };
-        value.clamp(i64::from(i32::MIN), i64::from(i32::MAX)) as i32
-    }
-
-    /// The number as it stands in a record or in settings.
-    pub fn in_cell(self, cell: Cell) -> u32 {
-        match cell {
-            Cell::Mark => u32::from(self.minus || self.size > 0),
-            Cell::Plain => self.plain(),
-            Cell::Signed => self.signed() as u32,
-        }
+        u32::try_from(self.value).unwrap_or(u32::MAX)
     }
 
     /// The room that the number gives, `most` where it is more; a room has no minus.
@@ -56,7 +37,7 @@ impl Number {
         if self.minus {
             return None;
         }
-        Some(most.min(self.size as usize))
+        Some(usize::try_from(self.value).map_or(most, |room| most.min(room)))
     }
 }
 
@@ -65,21 +46,17 @@ pub fn numbers(words: &[u8]) -> Option<Vec<Number>> {
     words.split(|&b| b == b' ').map(Number::of).collect()
 }
 
-/// The numbers as they stand in cells, one for each.
-pub fn in_cells(numbers: &[Number], cells: &[Cell]) -> Option<Vec<u32>> {
-    if numbers.len() != cells.len() {
+/// So many numbers of a row, as they stand.
+pub fn values(numbers: &[Number], count: usize) -> Option<Vec<i64>> {
+    if numbers.len() != count {
         return None;
     }
-    Some(numbers.iter().zip(cells).map(|(number, &cell)| number.in_cell(cell)).collect())
+    Some(numbers.iter().map(|number| number.value).collect())
 }
 
 /// A blank and the text of each number.
-pub fn text_of(numbers: &[u32], cells: &[Cell]) -> String {
-    let text = |(&number, &cell): (&u32, &Cell)| match cell {
-        Cell::Signed => format!(" {}", number as i32),
-        Cell::Mark | Cell::Plain => format!(" {}", number),
-    };
-    numbers.iter().zip(cells).map(text).collect()
+pub fn text_of(numbers: &[i64]) -> String {
+    numbers.iter().map(|number| format!(" {}", number)).collect()
 }
 
 /// The talker of two letters.

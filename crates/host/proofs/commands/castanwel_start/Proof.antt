@@ -8,20 +8,25 @@ use Rattle.host.proofs.commands.castanwel_start.Tie as tie
 
 returns : tie.Need-returns
 returns c =
-    let b3 = c .before .before .before in
-    let b4 = b3 .before in
-    let b7 = b4 .before .before .before in
-    let lay = b3 .lay .ensures in
-    (room (length (b7 .args .settings .now)) 11 (sym (lay .0) ∙ c .if1 .taken), lay .1 ∙ rw (b4 .at-start .ensures))
+    let laid = c .before .before in
+    let e = laid .lay .ensures in
+    let n = length (laid .before .before .before .args .settings .now) in
+    (room n 11 (sym (e .0) ∙ c .if1 .taken), rw (laid .before .at-start .ensures) at (e .1))
 
 returns-2 : tie.Need-returns-2
 returns-2 c =
-    let b3 = c .before .before .before in
-    let b4 = b3 .before in
-    let b7 = b4 .before .before .before in
-    let lay = b3 .lay .ensures in
-    (no-room (length (b7 .args .settings .now)) 11 (sym (lay .0) ∙ c .if1 .left), lay .1 ∙ rw (b4 .at-start .ensures))
+    let laid = c .before .before in
+    let e = laid .lay .ensures in
+    let n = length (laid .before .before .before .args .settings .now) in
+    (no-room n 11 (sym (e .0) ∙ c .if1 .left), rw (laid .before .at-start .ensures) at (e .1))
 
 pub castanwel-start-spec : {M : Type 1} → statement M
 castanwel-start-spec =
-    tie.close (tie.spec (λ c κs. search needs) (λ c κs. search needs) (λ c. search needs) returns (λ c. search needs) returns-2)
+    tie.close
+    (tie.spec
+    (λ c κs. search needs)
+    (λ c κs. search needs)
+    (λ c. search needs)
+    returns
+    (λ c. search needs)
+    returns-2)

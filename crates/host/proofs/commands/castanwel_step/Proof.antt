@@ -6,7 +6,7 @@ use Rattle.host.proofs.commands.castanwel_step.Tie as tie
 
 returns : tie.Need-returns
 returns c =
-    let e = c .before .before .before .before .step .ensures in
+    let e = c .before .before .before .step .ensures in
     (ap (λ w. w .no) (e .0), (ap (λ w. w .length) (e .0), (ap (λ w. w .line) (e .0), (ap (λ w. w .field) (e .0), e .1))))
 
 pub castanwel-step-spec : {M : Type 1} → statement M

@@ -1,9 +1,9 @@
 -- A whole sky has at most 36 satellites, so that its count is laid as it is; nobody's is refused.
-use mathlib.Core.Path.{_∙_, _≡_, sym}
+use mathlib.Core.Path.{_≡_, sym, _∙_}
 use lib.ListN.{length}
 use Rattle.sky.specs.Group.{groupOf}
-use Rattle.sky_write.proofs.Counts.{length-mapped}
-use Rattle.host.proofs.Rooms.{no-room, room}
+use Rattle.slots.proofs.Laying.{length-mapped}
+use Rattle.host.proofs.Rooms.{room, no-room}
 use Rattle.host.proofs.Skies.{few, nobody, somebody}
 use borrow.Author.Needs.{needs}
 use Rattle.host.proofs.groups.castanwel_read_group.Statement.{statement}
@@ -11,35 +11,33 @@ use Rattle.host.proofs.groups.castanwel_read_group.Tie as tie
 
 returns : tie.Need-returns
 returns c =
-    let b3 = c .before .before .before in
-    let b6 = b3 .before .before .before in
-    nobody (groupOf (b6 .args .s .now)) (b3 .read .result) (b6 .args .numbers .now) (b3 .read .ensures) (c .enum-told .given .1)
+    let read = c .before .before .before in
+    let s = read .before .before .args in
+    nobody (groupOf (s .s .now)) (read .read .result) (s .numbers .now) (read .read .ensures) (c .enum-told .given .1)
 
 lay-requires : tie.Need-lay-requires
 lay-requires c κs =
-    let full : length (c .before .before .before .before .before .read .result .table .entries) ≡ 36 = search (needs, length-mapped) in
-    few (groupOf (c .before .before .before .before .before .before .before .before .args .s .now))
-    (c .before .before .before .before .before .read .result) (c .before .before .before .before .before .read .ensures) full
+    let read = c .before .before .before .before .before in
+    let full : length (read .read .result .table .entries) ≡ 36 = search (needs, length-mapped) in
+    few (groupOf (read .before .before .args .s .now)) (read .read .result) (read .read .ensures) full
 
 returns-2 : tie.Need-returns-2
 returns-2 c =
-    let b3 = c .before .before .before in
-    let b6 = b3 .before .before .before in
-    let b9 = b6 .before .before .before in
-    let b12 = b9 .before .before .before in
-    let lay = b3 .lay .ensures in
-    somebody (groupOf (b12 .args .s .now)) (b9 .read .result) _ (b12 .args .numbers .now) _ (b9 .read .ensures) (b6 .whose .given .1)
-    (lay .1) (room (length (b12 .args .numbers .now)) 254 (sym (lay .0) ∙ c .if1 .taken))
+    let lay = c .before .before .lay .ensures in
+    let whose = c .before .before .before .before .before in
+    let read = whose .before .before .before in
+    let s = read .before .before .args in
+    somebody (groupOf (s .s .now)) (read .read .result) _ (s .numbers .now) _ (read .read .ensures) (whose .whose .given .1) (lay .1)
+    (room (length (s .numbers .now)) 254 (sym (lay .0) ∙ c .if1 .taken))
 
 returns-3 : tie.Need-returns-3
 returns-3 c =
-    let b3 = c .before .before .before in
-    let b6 = b3 .before .before .before in
-    let b9 = b6 .before .before .before in
-    let b12 = b9 .before .before .before in
-    let lay = b3 .lay .ensures in
-    somebody (groupOf (b12 .args .s .now)) (b9 .read .result) _ (b12 .args .numbers .now) _ (b9 .read .ensures) (b6 .whose .given .1)
-    (lay .1) (no-room (length (b12 .args .numbers .now)) 254 (sym (lay .0) ∙ c .if1 .left))
+    let lay = c .before .before .lay .ensures in
+    let whose = c .before .before .before .before .before in
+    let read = whose .before .before .before in
+    let s = read .before .before .args in
+    somebody (groupOf (s .s .now)) (read .read .result) _ (s .numbers .now) _ (read .read .ensures) (whose .whose .given .1) (lay .1)
+    (no-room (length (s .numbers .now)) 254 (sym (lay .0) ∙ c .if1 .left))
 
 pub castanwel-read-group-spec : {M : Type 1} → statement M
 castanwel-read-group-spec =

@@ -6,7 +6,7 @@ use Rattle.host.proofs.sentences.castanwel_read.Tie as tie
 
 returns : tie.Need-returns
 returns c =
-    let e = c .before .before .read .ensures in
+    let e = c .before .read .ensures in
     (ap (λ t. t .no) (e .0), (ap (λ t. t .kind) (e .0), (ap (λ t. t .field) (e .0), e .1)))
 
 pub castanwel-read-spec : {M : Type 1} → statement M

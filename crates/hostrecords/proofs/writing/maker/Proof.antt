@@ -1,89 +1,112 @@
--- `maker` meets its contract: each of the maker's sentences has its record and its writer.
+-- `maker` meets its contract: a GPS mask that does not fit is refused; else each of the maker's sentences has its record and its writer.
+use mathlib.Core.Path.{_≡_, sym, _∙_}
+use denote.Ref.{now}
 use borrow.Author.Needs.{needs}
+use Rattle.fromnumbers.specs.Back.{makerAt}
+use Rattle.hostrecords.proofs.Handing.{refused-over, kept}
 use Rattle.hostrecords.proofs.writing.maker.Statement.{statement}
 use Rattle.hostrecords.proofs.writing.maker.Tie as tie
 
 returns : tie.Need-returns
 returns c =
-    let b2 = c .before .before in
-    let b3 = b2 .before in
-    let b5 = b3 .before .before in
-    rw (b5 .enum-told .given .1, ← b3 .pirpr .ensures) (b2 .write .ensures)
+    let s = c .before .before .before .before .args in
+    refused-over (makerAt (s .k) (now (s .n))) (now (s .out)) _ (sym (c .before .before .over .ensures) ∙ c .before .if1 .taken) _
+    (c .refuse .ensures)
 
 returns-2 : tie.Need-returns-2
 returns-2 c =
-    let b2 = c .before .before in
-    let b3 = b2 .before in
-    let b5 = b3 .before .before in
-    rw (b5 .enum-told2 .given .1, ← b3 .pirtr .ensures) (b2 .write2 .ensures)
+    let told = c .before .before .before .before .before in
+    let after = told .before .before .before in
+    let s = after .before .before .args in
+    kept (makerAt (s .k) (now (s .n))) (now (s .out)) _ (sym (after .over .ensures) ∙ told .before .before .if1 .left)
+    (rw (told .enum-told .given .1, ← c .before .before .before .pirpr .ensures) (c .before .before .write .ensures))
 
 returns-3 : tie.Need-returns-3
 returns-3 c =
-    let b2 = c .before .before in
-    let b3 = b2 .before in
-    let b5 = b3 .before .before in
-    rw (b5 .enum-told3 .given .1, ← b3 .pirsr .ensures) (b2 .write3 .ensures)
+    let told = c .before .before .before .before .before in
+    let after = told .before .before .before in
+    let s = after .before .before .args in
+    kept (makerAt (s .k) (now (s .n))) (now (s .out)) _ (sym (after .over .ensures) ∙ told .before .before .if1 .left)
+    (rw (told .enum-told2 .given .1, ← c .before .before .before .pirtr .ensures) (c .before .before .write2 .ensures))
 
 returns-4 : tie.Need-returns-4
-returns-4 c = rw (c .before .before .before .before .enum-told4 .given .1) (c .before .before .write4 .ensures)
+returns-4 c =
+    let told = c .before .before .before .before .before in
+    let after = told .before .before .before in
+    let s = after .before .before .args in
+    kept (makerAt (s .k) (now (s .n))) (now (s .out)) _ (sym (after .over .ensures) ∙ told .before .before .if1 .left)
+    (rw (told .enum-told3 .given .1, ← c .before .before .before .pirsr .ensures) (c .before .before .write3 .ensures))
 
 returns-5 : tie.Need-returns-5
 returns-5 c =
-    let b2 = c .before .before in
-    let b3 = b2 .before in
-    let b5 = b3 .before .before in
-    rw (b5 .enum-told5 .given .1, ← b3 .pirpa .ensures) (b2 .write5 .ensures)
+    let told = c .before .before .before .before in
+    let after = told .before .before .before in
+    let s = after .before .before .args in
+    kept (makerAt (s .k) (now (s .n))) (now (s .out)) _ (sym (after .over .ensures) ∙ told .before .before .if1 .left)
+    (rw (told .enum-told4 .given .1) (c .before .before .write4 .ensures))
 
 returns-6 : tie.Need-returns-6
 returns-6 c =
-    let b2 = c .before .before in
-    let b3 = b2 .before in
-    let b5 = b3 .before .before in
-    rw (b5 .enum-told6 .given .1, ← b3 .pirta .ensures) (b2 .write6 .ensures)
+    let told = c .before .before .before .before .before in
+    let after = told .before .before .before in
+    let s = after .before .before .args in
+    kept (makerAt (s .k) (now (s .n))) (now (s .out)) _ (sym (after .over .ensures) ∙ told .before .before .if1 .left)
+    (rw (told .enum-told5 .given .1, ← c .before .before .before .pirpa .ensures) (c .before .before .write5 .ensures))
 
 returns-7 : tie.Need-returns-7
 returns-7 c =
-    let b2 = c .before .before in
-    let b3 = b2 .before in
-    let b5 = b3 .before .before in
-    rw (b5 .enum-told7 .given .1, ← b3 .pirsa .ensures) (b2 .write7 .ensures)
+    let told = c .before .before .before .before .before in
+    let after = told .before .before .before in
+    let s = after .before .before .args in
+    kept (makerAt (s .k) (now (s .n))) (now (s .out)) _ (sym (after .over .ensures) ∙ told .before .before .if1 .left)
+    (rw (told .enum-told6 .given .1, ← c .before .before .before .pirta .ensures) (c .before .before .write6 .ensures))
 
 returns-8 : tie.Need-returns-8
 returns-8 c =
-    let b2 = c .before .before in
-    let b3 = b2 .before in
-    let b5 = b3 .before .before in
-    rw (b5 .enum-told8 .given .1, ← b3 .pirea .ensures) (b2 .write8 .ensures)
+    let told = c .before .before .before .before .before in
+    let after = told .before .before .before in
+    let s = after .before .before .args in
+    kept (makerAt (s .k) (now (s .n))) (now (s .out)) _ (sym (after .over .ensures) ∙ told .before .before .if1 .left)
+    (rw (told .enum-told7 .given .1, ← c .before .before .before .pirsa .ensures) (c .before .before .write7 .ensures))
+
+returns-9 : tie.Need-returns-9
+returns-9 c =
+    let told = c .before .before .before .before .before in
+    let after = told .before .before .before in
+    let s = after .before .before .args in
+    kept (makerAt (s .k) (now (s .n))) (now (s .out)) _ (sym (after .over .ensures) ∙ told .before .before .if1 .left)
+    (rw (told .enum-told8 .given .1, ← c .before .before .before .pirea .ensures) (c .before .before .write8 .ensures))
 
 pub maker-spec : {M : Type 1} → statement M
 maker-spec =
     tie.close
     (tie.spec
-    (λ c. search needs)
     (λ c κs. search needs)
     (λ c κs. search needs)
-    (λ c. search needs)
-    (λ c κs. search needs)
-    (λ c κs. search needs)
-    (λ c. search needs)
-    (λ c κs. search needs)
-    (λ c κs. search needs)
-    (λ c. search needs)
-    (λ c κs. search needs)
-    (λ c. search needs)
-    (λ c κs. search needs)
-    (λ c κs. search needs)
-    (λ c. search needs)
-    (λ c κs. search needs)
-    (λ c κs. search needs)
-    (λ c. search needs)
-    (λ c κs. search needs)
-    (λ c κs. search needs)
-    (λ c. search needs)
-    (λ c κs. search needs)
-    (λ c κs. search needs)
-    (λ c. search needs)
     returns
+    (λ c. search needs)
+    (λ c κs. search needs)
+    (λ c κs. search needs)
+    (λ c. search needs)
+    (λ c κs. search needs)
+    (λ c κs. search needs)
+    (λ c. search needs)
+    (λ c κs. search needs)
+    (λ c κs. search needs)
+    (λ c. search needs)
+    (λ c κs. search needs)
+    (λ c. search needs)
+    (λ c κs. search needs)
+    (λ c κs. search needs)
+    (λ c. search needs)
+    (λ c κs. search needs)
+    (λ c κs. search needs)
+    (λ c. search needs)
+    (λ c κs. search needs)
+    (λ c κs. search needs)
+    (λ c. search needs)
+    (λ c κs. search needs)
+    (λ c κs. search needs)
     (λ c. search needs)
     returns-2
     (λ c. search needs)
@@ -97,4 +120,6 @@ maker-spec =
     (λ c. search needs)
     returns-7
     (λ c. search needs)
-    returns-8)
+    returns-8
+    (λ c. search needs)
+    returns-9)

@@ -1,26 +1,53 @@
 -- `pirpr` meets its contract: the numbers that it lays are those of the record.
-use mathlib.Core.Path.{_∙_}
+use mathlib.Core.Path.{refl}
+use denote.Ref.{now}
+use mir.Syntax.{w32}
+use mir.Val.{Fits}
 use borrow.Author.Needs.{needs}
+use Rattle.slots.proofs.Fitting.{mark-back, wide}
+use Rattle.slots.proofs.Rows.{_⋮_, laid-by}
+use Rattle.tonumbers.specs.Layout.{pirprLayout}
 use Rattle.tonumbers.proofs.com.pirpr.Statement.{statement}
 use Rattle.tonumbers.proofs.com.pirpr.Tie as tie
 
+-- The values fit 32 bits.
+fits : (c : tie.Start)
+    → Fits w32 (c .args .r .port .value)
+    × Fits w32 (c .args .r .rate .value)
+    × Fits w32 (c .args .r .protocol .value)
+    × Fits w32 (c .args .r .mask .value)
+fits c = (search needs, search needs, search needs, search needs)
+
 returns : tie.Need-returns
+unfolding pirprLayout
 returns c =
-    let b2 = c .before .before in
-    let b5 = b2 .before .before .before in
-    let b6 = b5 .before in
-    let b7 = b6 .before in
-    let b8 = b7 .before in
-    (b2 .lay .ensures .0, b2 .lay .ensures .1 ∙ rw (b8 .mark .ensures, b7 .mark2 .ensures, b6 .mark3 .ensures, b5 .mark4 .ensures))
+    let b1 = c .before .before .before .before .before .before .before .before in
+    let s = b1 .before .before .before .before in
+    let r = s .args .r in
+    let f = fits s in
+    laid-by (now (s .args .out)) _ _ (c .before .lay .ensures)
+    (mark-back (r .port .there)
+    ⋮ wide (r .port .value) (f .0)
+    ⋮ mark-back (r .rate .there)
+    ⋮ wide (r .rate .value) (f .1)
+    ⋮ mark-back (r .protocol .there)
+    ⋮ wide (r .protocol .value) (f .2)
+    ⋮ mark-back (r .mask .there)
+    ⋮ wide (r .mask .value) (f .3)
+    ⋮ refl)
 
 pub pirpr-spec : {M : Type 1} → statement M
 pirpr-spec =
     tie.close
     (tie.spec
-    (λ c κs. search needs)
-    (λ c κs. search needs)
-    (λ c κs. search needs)
-    (λ c κs. search needs)
+    (λ c. search needs)
+    (λ c. search needs)
+    (λ c. search needs)
+    (λ c. search needs)
+    (λ c. search needs)
+    (λ c. search needs)
+    (λ c. search needs)
+    (λ c. search needs)
     (λ c. search needs)
     (λ c κs. search needs)
     (λ c. search needs)

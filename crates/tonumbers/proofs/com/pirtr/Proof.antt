@@ -1,31 +1,46 @@
 -- `pirtr` meets its contract: the numbers that it lays are those of the record.
-use mathlib.Core.Path.{_∙_}
+use mathlib.Core.Path.{refl}
+use denote.Ref.{now}
 use mir.Syntax.{w32}
-use mir.Facts.{toZ-ofZ}
+use mir.Val.{Fits, SFits}
 use borrow.Author.Needs.{needs}
+use Rattle.slots.proofs.Fitting.{cast-back, cast-fits, mark-back, wide}
+use Rattle.slots.proofs.Rows.{_⋮_, laid-by}
+use Rattle.tonumbers.specs.Layout.{pirtrLayout}
 use Rattle.tonumbers.proofs.com.pirtr.Statement.{statement}
 use Rattle.tonumbers.proofs.com.pirtr.Tie as tie
 
+-- The values fit 32 bits.
+fits : (c : tie.Start)
+    → Fits w32 (c .args .r .datum .value)
+    × SFits w32 (c .args .r .zone .minutes)
+fits c = (search needs, search needs)
+
+cast-t7 : tie.Need-cast-t7
+cast-t7 c = cast-fits _ (fits (c .before .before .before .before .before) .1)
+
 returns : tie.Need-returns
-returns c = (
-  c .before .before .lay .ensures .0,
-  c .before .before .lay .ensures .1
-      ∙ rw (
-        c .before .before .before .before .before .before .before .before .mark .ensures,
-        c .before .before .before .before .before .before .before .mark2 .ensures,
-        c .before .before .before .before .before .bits .ensures,
-        toZ-ofZ {w = w32} {z = c .before .before .before .before .before .before .before .before .before .before .args .r .zone .minutes}
-            (search needs),
-      ),
-)
+unfolding pirtrLayout
+returns c =
+    let b1 = c .before .before .before .before .before .before .before .before in
+    let s = b1 .before in
+    let r = s .args .r in
+    let f = fits s in
+    laid-by (now (s .args .out)) _ _ (c .before .lay .ensures)
+    (mark-back (r .datum .there)
+    ⋮ wide (r .datum .value) (f .0)
+    ⋮ mark-back (r .zone .there)
+    ⋮ cast-back (r .zone .minutes) (f .1)
+    ⋮ refl)
 
 pub pirtr-spec : {M : Type 1} → statement M
 pirtr-spec =
     tie.close
     (tie.spec
-    (λ c κs. search needs)
-    (λ c κs. search needs)
-    (λ c κs. search needs)
+    (λ c. search needs)
+    (λ c. search needs)
+    (λ c. search needs)
+    cast-t7
     (λ c. search needs)
     (λ c κs. search needs)
     (λ c. search needs)

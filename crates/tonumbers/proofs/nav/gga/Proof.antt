@@ -1,81 +1,125 @@
 -- `gga` meets its contract: the numbers that it lays are those of the record.
-use mathlib.Core.Path.{_∙_}
+use mathlib.Core.Path.{refl}
+use denote.Ref.{now}
 use mir.Syntax.{w32}
-use mir.Val.{SFits}
-use mir.Facts.{toZ-ofZ}
+use mir.Val.{Fits, SFits}
 use borrow.Author.Needs.{needs}
+use Rattle.slots.proofs.Fitting.{cast-back, cast-fits, mark-back, wide, wide-fits}
+use Rattle.slots.proofs.Rows.{_⋮_, laid-by, talker-is}
+use Rattle.tonumbers.specs.Layout.{ggaLayout}
 use Rattle.tonumbers.proofs.nav.gga.Statement.{statement}
 use Rattle.tonumbers.proofs.nav.gga.Tie as tie
 
-lat-fits : (c : tie.Start) → SFits w32 (c .args .r .place .lat)
-lat-fits c = search needs
+-- The values fit 32 bits.
+fits : (c : tie.Start)
+    → Fits w32 (c .args .r .time .value)
+    × SFits w32 (c .args .r .place .lat)
+    × SFits w32 (c .args .r .place .lon)
+    × Fits w32 (c .args .r .quality)
+    × Fits w32 (c .args .r .satellites .value)
+    × Fits w32 (c .args .r .hdop .value)
+    × SFits w32 (c .args .r .altitude .value)
+    × SFits w32 (c .args .r .geoid .value)
+    × Fits w32 (c .args .r .age .value)
+    × Fits w32 (c .args .r .station .value)
+fits c = (
+  search needs,
+  search needs,
+  search needs,
+  search needs,
+  search needs,
+  search needs,
+  search needs,
+  search needs,
+  search needs,
+  search needs,
+)
 
-lon-fits : (c : tie.Start) → SFits w32 (c .args .r .place .lon)
-lon-fits c = search needs
+cast-t10 : tie.Need-cast-t10
+cast-t10 c = cast-fits _ (fits (c .before .before .before .before .before .before) .1)
 
-altitude-fits : (c : tie.Start) → SFits w32 (c .args .r .altitude .value)
-altitude-fits c = search needs
+cast-t11 : tie.Need-cast-t11
+cast-t11 c = cast-fits _ (fits (c .before .before .before .before .before .before .before .before) .2)
 
-geoid-fits : (c : tie.Start) → SFits w32 (c .args .r .geoid .value)
-geoid-fits c = search needs
+cast-t18 : tie.Need-cast-t18
+cast-t18 c =
+    let b1 = c .before .before .before .before .before .before .before .before in
+    cast-fits _ (fits (b1 .before .before .before .before .before .before .before .before) .6)
+
+cast-t20 : tie.Need-cast-t20
+cast-t20 c =
+    let b1 = c .before .before .before .before .before .before .before .before in
+    let b2 = b1 .before .before .before .before .before .before .before .before in
+    cast-fits _ (fits (b2 .before .before .before) .7)
+
+cast-t22 : tie.Need-cast-t22
+cast-t22 c =
+    let b1 = c .before .before .before .before .before .before .before .before in
+    let b2 = b1 .before .before .before .before .before .before .before .before in
+    wide-fits _ (fits (b2 .before .before .before .before .before) .8)
+
+cast-t24 : tie.Need-cast-t24
+cast-t24 c =
+    let b1 = c .before .before .before .before .before .before .before .before in
+    let b2 = b1 .before .before .before .before .before .before .before .before in
+    wide-fits _ (fits (b2 .before .before .before .before .before .before .before) .9)
 
 returns : tie.Need-returns
+unfolding ggaLayout
 returns c =
-    let b2 = c .before .before in
-    let b5 = b2 .before .before .before in
-    let b6 = b5 .before in
-    let b7 = b6 .before in
-    let b9 = b7 .before .before in
-    let b10 = b9 .before in
-    let b12 = b10 .before .before in
-    let b13 = b12 .before in
-    let b14 = b13 .before in
-    let b15 = b14 .before in
-    let b17 = b15 .before .before in
-    let b19 = b17 .before .before in
-    let b20 = b19 .before in
-    let b21 = b20 .before in
-    let b23 = b21 .before .before in (
-      b2 .lay .ensures .0,
-      b2 .lay .ensures .1
-          ∙ rw (
-            b21 .talker-number .ensures,
-            b20 .mark .ensures,
-            b19 .mark2 .ensures,
-            b17 .bits .ensures,
-            toZ-ofZ {w = w32} {z = b23 .args .r .place .lat} (lat-fits (b23)),
-            b15 .bits2 .ensures,
-            toZ-ofZ {w = w32} {z = b23 .args .r .place .lon} (lon-fits (b23)),
-            b14 .mark3 .ensures,
-            b13 .mark4 .ensures,
-            b12 .mark5 .ensures,
-            b10 .bits3 .ensures,
-            toZ-ofZ {w = w32} {z = b23 .args .r .altitude .value} (altitude-fits (b23)),
-            b9 .mark6 .ensures,
-            b7 .bits4 .ensures,
-            toZ-ofZ {w = w32} {z = b23 .args .r .geoid .value} (geoid-fits (b23)),
-            b6 .mark7 .ensures,
-            b5 .mark8 .ensures,
-          ),
-    )
+    let b1 = c .before .before .before .before .before .before .before .before in
+    let b2 = b1 .before .before .before .before .before .before .before .before in
+    let b3 = b2 .before .before .before .before .before .before .before .before in
+    let at-talker = b3 .before .before in
+    let s = at-talker .before in
+    let r = s .args .r in
+    let f = fits s in
+    laid-by (now (s .args .out)) _ _ (c .before .lay .ensures)
+    (talker-is (s .args .t) _ (at-talker .talker-number .ensures)
+    ⋮ mark-back (r .time .there)
+    ⋮ wide (r .time .value) (f .0)
+    ⋮ mark-back (r .place .there)
+    ⋮ cast-back (r .place .lat) (f .1)
+    ⋮ cast-back (r .place .lon) (f .2)
+    ⋮ wide (r .quality) (f .3)
+    ⋮ mark-back (r .satellites .there)
+    ⋮ wide (r .satellites .value) (f .4)
+    ⋮ mark-back (r .hdop .there)
+    ⋮ wide (r .hdop .value) (f .5)
+    ⋮ mark-back (r .altitude .there)
+    ⋮ cast-back (r .altitude .value) (f .6)
+    ⋮ mark-back (r .geoid .there)
+    ⋮ cast-back (r .geoid .value) (f .7)
+    ⋮ mark-back (r .age .there)
+    ⋮ wide (r .age .value) (f .8)
+    ⋮ mark-back (r .station .there)
+    ⋮ wide (r .station .value) (f .9)
+    ⋮ refl)
 
 pub gga-spec : {M : Type 1} → statement M
 gga-spec =
     tie.close
     (tie.spec
     (λ c κs. search needs)
-    (λ c κs. search needs)
-    (λ c κs. search needs)
-    (λ c κs. search needs)
-    (λ c κs. search needs)
-    (λ c κs. search needs)
-    (λ c κs. search needs)
-    (λ c κs. search needs)
-    (λ c κs. search needs)
-    (λ c κs. search needs)
-    (λ c κs. search needs)
-    (λ c κs. search needs)
-    (λ c κs. search needs)
+    (λ c. search needs)
+    (λ c. search needs)
+    (λ c. search needs)
+    (λ c. search needs)
+    cast-t10
+    cast-t11
+    (λ c. search needs)
+    (λ c. search needs)
+    (λ c. search needs)
+    (λ c. search needs)
+    (λ c. search needs)
+    (λ c. search needs)
+    cast-t18
+    (λ c. search needs)
+    cast-t20
+    (λ c. search needs)
+    cast-t22
+    (λ c. search needs)
+    cast-t24
     (λ c. search needs)
     (λ c κs. search needs)
     (λ c. search needs)

@@ -1,68 +1,131 @@
 -- `rmc` meets its contract: the numbers that it lays are those of the record.
-use mathlib.Core.Path.{_∙_}
+use mathlib.Core.Path.{refl}
+use denote.Ref.{now}
 use mir.Syntax.{w32}
-use mir.Val.{SFits}
-use mir.Facts.{toZ-ofZ}
+use mir.Val.{Fits, SFits}
 use borrow.Author.Needs.{needs}
+use Rattle.slots.proofs.Fitting.{cast-back, cast-fits, mark-back, wide, wide-fits}
+use Rattle.slots.proofs.Rows.{_⋮_, laid-by, talker-is}
+use Rattle.tonumbers.specs.Layout.{rmcLayout}
 use Rattle.tonumbers.proofs.nav.rmc.Statement.{statement}
 use Rattle.tonumbers.proofs.nav.rmc.Tie as tie
 
-lat-fits : (c : tie.Start) → SFits w32 (c .args .r .place .lat)
-lat-fits c = search needs
+-- The values fit 32 bits.
+fits : (c : tie.Start)
+    → Fits w32 (c .args .r .time .value)
+    × Fits w32 (c .args .r .status)
+    × SFits w32 (c .args .r .place .lat)
+    × SFits w32 (c .args .r .place .lon)
+    × Fits w32 (c .args .r .speed .value)
+    × Fits w32 (c .args .r .course .value)
+    × Fits w32 (c .args .r .date .day)
+    × Fits w32 (c .args .r .date .month)
+    × Fits w32 (c .args .r .date .year)
+    × SFits w32 (c .args .r .variation .value)
+    × Fits w32 (c .args .r .mode)
+fits c = (
+  search needs,
+  search needs,
+  search needs,
+  search needs,
+  search needs,
+  search needs,
+  search needs,
+  search needs,
+  search needs,
+  search needs,
+  search needs,
+)
 
-lon-fits : (c : tie.Start) → SFits w32 (c .args .r .place .lon)
-lon-fits c = search needs
+cast-t11 : tie.Need-cast-t11
+cast-t11 c = cast-fits _ (fits (c .before .before .before .before .before .before .before) .2)
 
-variation-fits : (c : tie.Start) → SFits w32 (c .args .r .variation .value)
-variation-fits c = search needs
+cast-t12 : tie.Need-cast-t12
+cast-t12 c =
+    let b1 = c .before .before .before .before .before .before .before .before in
+    cast-fits _ (fits (b1 .before) .3)
+
+cast-t18 : tie.Need-cast-t18
+cast-t18 c =
+    let b1 = c .before .before .before .before .before .before .before .before in
+    wide-fits _ (fits (b1 .before .before .before .before .before .before .before) .6)
+
+cast-t19 : tie.Need-cast-t19
+cast-t19 c =
+    let b1 = c .before .before .before .before .before .before .before .before in
+    wide-fits _ (fits (b1 .before .before .before .before .before .before .before .before) .7)
+
+cast-t20 : tie.Need-cast-t20
+cast-t20 c =
+    let b1 = c .before .before .before .before .before .before .before .before in
+    let b2 = b1 .before .before .before .before .before .before .before .before in
+    wide-fits _ (fits (b2 .before) .8)
+
+cast-t22 : tie.Need-cast-t22
+cast-t22 c =
+    let b1 = c .before .before .before .before .before .before .before .before in
+    let b2 = b1 .before .before .before .before .before .before .before .before in
+    cast-fits _ (fits (b2 .before .before .before .before) .9)
+
+cast-t23 : tie.Need-cast-t23
+cast-t23 c =
+    let b1 = c .before .before .before .before .before .before .before .before in
+    let b2 = b1 .before .before .before .before .before .before .before .before in
+    wide-fits _ (fits (b2 .before .before .before .before .before) .10)
 
 returns : tie.Need-returns
+unfolding rmcLayout
 returns c =
-    let b2 = c .before .before in
-    let b5 = b2 .before .before .before in
-    let b7 = b5 .before .before in
-    let b8 = b7 .before in
-    let b9 = b8 .before in
-    let b10 = b9 .before in
-    let b11 = b10 .before in
-    let b13 = b11 .before .before in
-    let b15 = b13 .before .before in
-    let b16 = b15 .before in
-    let b17 = b16 .before in
-    let b19 = b17 .before .before in (
-      b2 .lay .ensures .0,
-      b2 .lay .ensures .1
-          ∙ rw (
-            b17 .talker-number .ensures,
-            b16 .mark .ensures,
-            b15 .mark2 .ensures,
-            b13 .bits .ensures,
-            toZ-ofZ {w = w32} {z = b19 .args .r .place .lat} (lat-fits (b19)),
-            b11 .bits2 .ensures,
-            toZ-ofZ {w = w32} {z = b19 .args .r .place .lon} (lon-fits (b19)),
-            b10 .mark3 .ensures,
-            b9 .mark4 .ensures,
-            b8 .mark5 .ensures,
-            b7 .mark6 .ensures,
-            b5 .bits3 .ensures,
-            toZ-ofZ {w = w32} {z = b19 .args .r .variation .value} (variation-fits (b19)),
-          ),
-    )
+    let b1 = c .before .before .before .before .before .before .before .before in
+    let b2 = b1 .before .before .before .before .before .before .before .before in
+    let at-talker = b2 .before .before .before .before .before .before .before .before in
+    let s = at-talker .before in
+    let r = s .args .r in
+    let f = fits s in
+    laid-by (now (s .args .out)) _ _ (c .before .lay .ensures)
+    (talker-is (s .args .t) _ (at-talker .talker-number .ensures)
+    ⋮ mark-back (r .time .there)
+    ⋮ wide (r .time .value) (f .0)
+    ⋮ wide (r .status) (f .1)
+    ⋮ mark-back (r .place .there)
+    ⋮ cast-back (r .place .lat) (f .2)
+    ⋮ cast-back (r .place .lon) (f .3)
+    ⋮ mark-back (r .speed .there)
+    ⋮ wide (r .speed .value) (f .4)
+    ⋮ mark-back (r .course .there)
+    ⋮ wide (r .course .value) (f .5)
+    ⋮ mark-back (r .date .there)
+    ⋮ wide (r .date .day) (f .6)
+    ⋮ wide (r .date .month) (f .7)
+    ⋮ wide (r .date .year) (f .8)
+    ⋮ mark-back (r .variation .there)
+    ⋮ cast-back (r .variation .value) (f .9)
+    ⋮ wide (r .mode) (f .10)
+    ⋮ refl)
 
 pub rmc-spec : {M : Type 1} → statement M
 rmc-spec =
     tie.close
     (tie.spec
     (λ c κs. search needs)
-    (λ c κs. search needs)
-    (λ c κs. search needs)
-    (λ c κs. search needs)
-    (λ c κs. search needs)
-    (λ c κs. search needs)
-    (λ c κs. search needs)
-    (λ c κs. search needs)
-    (λ c κs. search needs)
-    (λ c κs. search needs)
+    (λ c. search needs)
+    (λ c. search needs)
+    (λ c. search needs)
+    (λ c. search needs)
+    (λ c. search needs)
+    cast-t11
+    cast-t12
+    (λ c. search needs)
+    (λ c. search needs)
+    (λ c. search needs)
+    (λ c. search needs)
+    (λ c. search needs)
+    cast-t18
+    cast-t19
+    cast-t20
+    (λ c. search needs)
+    cast-t22
+    cast-t23
     (λ c. search needs)
     (λ c κs. search needs)
     (λ c. search needs)

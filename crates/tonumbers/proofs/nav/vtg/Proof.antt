@@ -1,31 +1,60 @@
 -- `vtg` meets its contract: the numbers that it lays are those of the record.
-use mathlib.Core.Path.{_∙_}
+use mathlib.Core.Path.{refl}
+use denote.Ref.{now}
+use mir.Syntax.{w32}
+use mir.Val.{Fits}
 use borrow.Author.Needs.{needs}
+use Rattle.slots.proofs.Fitting.{mark-back, wide}
+use Rattle.slots.proofs.Rows.{_⋮_, laid-by, talker-is}
+use Rattle.tonumbers.specs.Layout.{vtgLayout}
 use Rattle.tonumbers.proofs.nav.vtg.Statement.{statement}
 use Rattle.tonumbers.proofs.nav.vtg.Tie as tie
 
+-- The values fit 32 bits.
+fits : (c : tie.Start)
+    → Fits w32 (c .args .r .course .value)
+    × Fits w32 (c .args .r .magnetic .value)
+    × Fits w32 (c .args .r .knots .value)
+    × Fits w32 (c .args .r .kmh .value)
+    × Fits w32 (c .args .r .mode)
+fits c = (search needs, search needs, search needs, search needs, search needs)
+
 returns : tie.Need-returns
+unfolding vtgLayout
 returns c =
-    let b2 = c .before .before in
-    let b5 = b2 .before .before .before in
-    let b6 = b5 .before in
-    let b7 = b6 .before in
-    let b8 = b7 .before in
-    let b9 = b8 .before in (
-      b2 .lay .ensures .0,
-      b2 .lay .ensures .1
-          ∙ rw (b9 .talker-number .ensures, b8 .mark .ensures, b7 .mark2 .ensures, b6 .mark3 .ensures, b5 .mark4 .ensures),
-    )
+    let b1 = c .before .before .before .before .before .before .before .before in
+    let at-talker = b1 .before .before .before .before .before in
+    let s = at-talker .before in
+    let r = s .args .r in
+    let f = fits s in
+    laid-by (now (s .args .out)) _ _ (c .before .lay .ensures)
+    (talker-is (s .args .t) _ (at-talker .talker-number .ensures)
+    ⋮ mark-back (r .course .there)
+    ⋮ wide (r .course .value) (f .0)
+    ⋮ mark-back (r .magnetic .there)
+    ⋮ wide (r .magnetic .value) (f .1)
+    ⋮ mark-back (r .knots .there)
+    ⋮ wide (r .knots .value) (f .2)
+    ⋮ mark-back (r .kmh .there)
+    ⋮ wide (r .kmh .value) (f .3)
+    ⋮ wide (r .mode) (f .4)
+    ⋮ refl)
 
 pub vtg-spec : {M : Type 1} → statement M
 vtg-spec =
     tie.close
     (tie.spec
     (λ c κs. search needs)
-    (λ c κs. search needs)
-    (λ c κs. search needs)
-    (λ c κs. search needs)
-    (λ c κs. search needs)
+    (λ c. search needs)
+    (λ c. search needs)
+    (λ c. search needs)
+    (λ c. search needs)
+    (λ c. search needs)
+    (λ c. search needs)
+    (λ c. search needs)
+    (λ c. search needs)
+    (λ c. search needs)
+    (λ c. search needs)
     (λ c. search needs)
     (λ c κs. search needs)
     (λ c. search needs)

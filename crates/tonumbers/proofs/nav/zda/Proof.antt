@@ -1,35 +1,63 @@
 -- `zda` meets its contract: the numbers that it lays are those of the record.
-use mathlib.Core.Path.{_∙_}
+use mathlib.Core.Path.{refl}
+use denote.Ref.{now}
 use mir.Syntax.{w32}
-use mir.Facts.{toZ-ofZ}
+use mir.Val.{Fits, SFits}
 use borrow.Author.Needs.{needs}
+use Rattle.slots.proofs.Fitting.{cast-back, cast-fits, mark-back, wide}
+use Rattle.slots.proofs.Rows.{_⋮_, laid-by, talker-is}
+use Rattle.tonumbers.specs.Layout.{zdaLayout}
 use Rattle.tonumbers.proofs.nav.zda.Statement.{statement}
 use Rattle.tonumbers.proofs.nav.zda.Tie as tie
 
+-- The values fit 32 bits.
+fits : (c : tie.Start)
+    → Fits w32 (c .args .r .time .value)
+    × Fits w32 (c .args .r .date .day)
+    × Fits w32 (c .args .r .date .month)
+    × Fits w32 (c .args .r .date .year)
+    × SFits w32 (c .args .r .zone .minutes)
+fits c = (search needs, search needs, search needs, search needs, search needs)
+
+cast-t14 : tie.Need-cast-t14
+cast-t14 c =
+    let b1 = c .before .before .before .before .before .before .before .before in
+    cast-fits _ (fits (b1 .before .before) .4)
+
 returns : tie.Need-returns
-returns c = (
-  c .before .before .lay .ensures .0,
-  c .before .before .lay .ensures .1
-      ∙ rw (
-        c .before .before .before .before .before .before .before .before .before .before .talker-number .ensures,
-        c .before .before .before .before .before .before .before .before .before .mark .ensures,
-        c .before .before .before .before .before .before .before .before .mark2 .ensures,
-        c .before .before .before .before .before .before .before .mark3 .ensures,
-        c .before .before .before .before .before .bits .ensures,
-        toZ-ofZ {w = w32} {z = c .before .before .before .before .before .before .before .before .before .before .before .before .args .r
-            .zone .minutes} (search needs),
-      ),
-)
+unfolding zdaLayout
+returns c =
+    let b1 = c .before .before .before .before .before .before .before .before in
+    let at-talker = b1 .before .before .before .before .before in
+    let s = at-talker .before in
+    let r = s .args .r in
+    let f = fits s in
+    laid-by (now (s .args .out)) _ _ (c .before .lay .ensures)
+    (talker-is (s .args .t) _ (at-talker .talker-number .ensures)
+    ⋮ mark-back (r .time .there)
+    ⋮ wide (r .time .value) (f .0)
+    ⋮ mark-back (r .date .there)
+    ⋮ wide (r .date .day) (f .1)
+    ⋮ wide (r .date .month) (f .2)
+    ⋮ wide (r .date .year) (f .3)
+    ⋮ mark-back (r .zone .there)
+    ⋮ cast-back (r .zone .minutes) (f .4)
+    ⋮ refl)
 
 pub zda-spec : {M : Type 1} → statement M
 zda-spec =
     tie.close
     (tie.spec
     (λ c κs. search needs)
-    (λ c κs. search needs)
-    (λ c κs. search needs)
-    (λ c κs. search needs)
-    (λ c κs. search needs)
+    (λ c. search needs)
+    (λ c. search needs)
+    (λ c. search needs)
+    (λ c. search needs)
+    (λ c. search needs)
+    (λ c. search needs)
+    (λ c. search needs)
+    (λ c. search needs)
+    cast-t14
     (λ c. search needs)
     (λ c κs. search needs)
     (λ c. search needs)

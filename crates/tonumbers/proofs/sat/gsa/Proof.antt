@@ -1,24 +1,93 @@
--- `gsa` meets its contract: what it lays is the row of the record.
-use mathlib.Core.Path.{sym}
-use denote.Ref.{now}
-use Rattle.tonumbers.proofs.Laying.{laid-as}
+-- `gsa` meets its contract: the first numbers, the satellites behind them, and the last behind those are the numbers of the record.
+use mathlib.Core.Path.{_≡_, refl, sym, ap, _∙_}
+use mathlib.Core.List.{List, [], _++_}
+use native.Mathlib.Omega.{arith}
 use borrow.Author.Needs.{needs}
+use borrow.Author.Tests.{le-leb, lt-leb}
+use lib.Dec.{leb}
+use lib.IntN.{ℤ}
+use lib.ListN.{length, length-append}
+use mir.Syntax.{w32}
+use mir.Val.{Fits}
+use Rattle.slots.specs.Slots.{laid}
+use Rattle.slots.proofs.Fitting.{mark-back, wide}
+use Rattle.slots.proofs.Laying.{length-mapped, laid-not, laid-two}
+use Rattle.slots.proofs.Rows.{_⋮_, talker-is}
+use Rattle.tonumbers.specs.Layout.{gsaNumbers}
+use Rattle.tonumbers.proofs.Satellites.{gsaFirst, gsaLast, twelve, gsa-parts, twelve-long, gsa-long}
 use Rattle.tonumbers.proofs.sat.gsa.Statement.{statement}
 use Rattle.tonumbers.proofs.sat.gsa.Tie as tie
 
+full : (c : tie.Start) → length (c .args .r .satellites) ≡ 12
+full c = search (needs, length-mapped)
+
+fits : (c : tie.Start)
+    → Fits w32 (c .args .r .selection)
+    × Fits w32 (c .args .r .fix)
+    × Fits w32 (c .args .r .pdop .value)
+    × Fits w32 (c .args .r .hdop .value)
+    × Fits w32 (c .args .r .vdop .value)
+fits c = (search needs, search needs, search needs, search needs, search needs)
+
 returns : tie.Need-returns
 returns c =
-    let b2 = c .before .before in
-    let b5 = b2 .before .before .before in
-    let b7 = b5 .before .before in
-    laid-as (now (b7 .args .out)) _ _ (sym (b5 .gsa-row .ensures)) (b2 .lay .ensures)
+    let s = c .before .args in
+    let long = gsa-long (s .t) (s .r) (full (c .before)) in
+    let e = ap (λ n. leb n (length (s .out .now))) long ∙ lt-leb 33 (length (s .out .now)) (c .if1 .taken) in
+    (sym e, sym (laid-not (gsaNumbers (s .t) (s .r)) (s .out .now) (omega (arith, long, c .if1 .taken))))
+
+returns-2 : tie.Need-returns-2
+returns-2 c =
+    let b5 = c .before .before .before .before .before in
+    let b8 = b5 .before .before .before in
+    let at-talker = b8 .before .before .before .before .before .before .before .before .before .before .before .before in
+    let start = at-talker .before .before in
+    let s = start .args in
+    let r = s .r in
+    let f = fits start in
+    let room = at-talker .before .if1 .left in
+    let sats = twelve-long (s .t) r (full start) in
+    let first = talker-is (s .t) _ (at-talker .talker-number .ensures) ⋮ wide (r .selection) (f .0) ⋮ wide (r .fix) (f .1) ⋮ refl in
+    let last =
+    mark-back (r .pdop .there) ⋮ wide (r .pdop .value) (f .2) ⋮ mark-back (r .hdop .there) ⋮ wide (r .hdop .value) (f .3)
+    ⋮ mark-back (r .vdop .there) ⋮ wide (r .vdop .value) (f .4) ⋮ refl {A = List ℤ} {a = []} in
+    let long = gsa-long (s .t) r (full start) in
+    let two =
+    laid-two (gsaFirst (s .t) r) (twelve r) (s .out .now) 3 refl (omega (arith, sats, room)) _
+    (b8 .lay .ensures .1 ∙ ap (λ (l : List ℤ). laid l (s .out .now)) first) (b5 .lay-twelve .ensures) in
+    let front : length (gsaFirst (s .t) r ++ twelve r) ≡ 27 = omega (arith, sats) in
+    let three =
+    laid-two (gsaFirst (s .t) r ++ twelve r) (gsaLast r) (s .out .now) 27 front room _ two
+    (rw last at (c .before .lay2 .ensures .1)) in (
+      sym (ap (λ n. leb n (length (s .out .now))) long ∙ le-leb 33 (length (s .out .now)) room),
+      three ∙ ap (λ (l : List ℤ). laid l (s .out .now)) (gsa-parts (s .t) r (full start)),
+    )
 
 pub gsa-spec : {M : Type 1} → statement M
 gsa-spec =
     tie.close
     (tie.spec
+    returns
     (λ c κs. search needs)
+    (λ c. search needs)
+    (λ c. search needs)
+    (λ c. search needs)
+    (λ c. search needs)
+    (λ c. search needs)
+    (λ c. search needs)
+    (λ c. search needs)
+    (λ c. search needs)
+    (λ c. search needs)
     (λ c. search needs)
     (λ c κs. search needs)
     (λ c. search needs)
-    returns)
+    (λ c. search needs)
+    (λ c. search needs)
+    (λ c κs. search needs)
+    (λ c. search needs)
+    (λ c. search needs)
+    (λ c. search needs)
+    (λ c. search needs)
+    (λ c κs. search needs)
+    (λ c. search needs)
+    returns-2)

@@ -6,7 +6,7 @@ use Rattle.words.proofs.form.is_sent.Tie as tie
 
 returns : tie.Need-returns
 unfolding isSent
-returns c = rw (c .marked .ensures, c .before .at .ensures)
+returns c = rw (c .there-at .ensures)
 
 pub is-sent-spec : {M : Type 1} → statement M
-is-sent-spec = tie.close (tie.spec (λ c κs. search needs) (λ c κs. search needs) returns)
+is-sent-spec = tie.close (tie.spec (λ c κs. search needs) returns)

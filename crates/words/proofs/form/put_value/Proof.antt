@@ -1,44 +1,32 @@
 -- The form of the numbers behind the mark, or `not sent`.
-use mathlib.Core.Path.{sym, _∙_}
-use native.Mathlib.Omega.{arith}
+use mathlib.Core.Path.{_∙_}
 use Rattle.words.specs.Forms.{valueText}
-use Rattle.words.proofs.FormLaws.{marks-most}
+use Rattle.words.proofs.FormLaws.{part-is}
 use borrow.Author.Needs.{needs}
 use Rattle.words.proofs.form.put_value.Statement.{statement}
 use Rattle.words.proofs.form.put_value.Tie as tie
 
-add-at : tie.Need-add-at
-add-at c = omega (arith, marks-most (c .before .before .before .before .before .before .args .f), c .before .marks .ensures)
-
-add-at-2 : tie.Need-add-at-2
-add-at-2 c = omega (
-  arith,
-  marks-most (c .before .before .before .before .before .before .before .args .f),
-  c .before .before .marks .ensures,
-)
-
 returns : tie.Need-returns
 unfolding valueText
-returns c = rw (
-  ← c .before .before .before .before .before .before .before .before .before .before .is-sent .ensures,
-  c .before .before .before .before .before .before .before .before .before .if1 .taken,
-  ←
-      c .before .before .before .before .before .before .before .before .marks .ensures,
-  ← c .before .before .before .small .ensures,
-  ←
-      c .before .before .before .before .before .before .before .at .ensures,
-  ←
-      c .before .before .before .before .before .before .at2 .ensures,
-  ← c .before .before .before .before .before .at3 .ensures,
-)
-    (c .before .before .put-form .ensures)
+returns c =
+    let b2 = c .before .before in
+    let b4 = b2 .before .before in
+    let b6 = b4 .before .before in
+    let b7 = b6 .before in
+    let b8 = b7 .before in
+    let b9 = b8 .before in
+    let b11 = b9 .before .before in
+    let ns = b11 .args .numbers .now in
+    let rest = part-is ns (b6 .past .result) ∙ (rw (b7 .marks .ensures) at (b6 .past .ensures .1)) in
+    rw (← b9 .is-sent .ensures, b8 .if1 .taken) (rw (b4 .small .ensures, rest) at (b2 .put-form .ensures))
 
 returns-2 : tie.Need-returns-2
 unfolding valueText
-returns-2 c = rw (
-  ← c .before .before .before .before .before .before .is-sent .ensures,
-  c .before .before .before .before .before .if1 .left,
-) (c .before .before .put-bytes .ensures)
+returns-2 c =
+    let b2 = c .before .before in
+    let b5 = b2 .before .before .before in
+    let b6 = b5 .before in
+    rw (← b6 .is-sent .ensures, b5 .if1 .left) (b2 .put-bytes .ensures)
 
 pub put-value-spec : {M : Type 1} → statement M
 put-value-spec =
@@ -47,11 +35,11 @@ put-value-spec =
     (λ c κs. search needs)
     (λ c κs. search needs)
     (λ c κs. search needs)
-    add-at
     (λ c κs. search needs)
-    add-at-2
-    (λ c κs. search needs)
-    (λ c κs. search needs)
+    (λ c. search needs)
+    (λ c. search needs)
+    (λ c. search needs)
+    (λ c. search needs)
     (λ c κs. search needs)
     (λ c. search needs)
     returns

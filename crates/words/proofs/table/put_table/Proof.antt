@@ -22,32 +22,29 @@ loop-holds : tie.Need-loop-holds Inv-loop μ-loop
 loop-holds c = (omega arith, (c .past .ensures .0, (refl, rw (c .past .ensures .1))))
 
 loop-again : tie.Need-loop-again Inv-loop μ-loop
-loop-again c = (
-  omega arith,
-  (
-    c .before .past2 .ensures .0,
-    (
-      omega arith,
-      fill-next (c .before .before .before .before .before .before .before .before .before .before .before .before .before
-          .before .before .args .table .now)
-          (c .before .before .before .before .before .before .before .before .before .before .before .before .before .before .before .args
-          .numbers .now) (c .before .before .before .before .before .before .before .before .before .before .loop .i)
-          (c .before .before .before .before .before .before .before .before .before .before .loop .q)
-          (c .before .before .before .before .before .before .before .before .before .before .loop .n)
-          (c .before .before .before .before .before .before .before .before .before .loop-test .taken) (c .state .result)
-          (c .before .past2 .result) (c .before .before .taken .result) (c .before .before .before .before .before .put-step .ensures)
-          (c .before .before .taken .ensures) (c .before .past2 .ensures .1) (c .state .ensures) ∙
-          c .before .before .before .before .before .before .before .before .before .before .loop .inv .1 .1 .1,
-    ),
-  ),
-)
+loop-again c =
+    let b1 = c .before in
+    let b2 = b1 .before in
+    let b5 = b2 .before .before .before in
+    let b9 = b5 .before .before .before .before in
+    let b10 = b9 .before in
+    let b14 = b10 .before .before .before .before in
+    let s = b14 .args in
+    let l = b10 .loop in
+    let next =
+    fill-next (s .table .now) (s .numbers .now) (l .i) (l .q) (l .n) (b9 .loop-test .taken) (c .state .result) (b1 .past2 .result)
+    (b2 .taken .result) (b5 .put-step .ensures) (b2 .taken .ensures) (b1 .past2 .ensures .1) (c .state .ensures) in
+    (omega arith, (b1 .past2 .ensures .0, (omega arith, next ∙ l .inv .1 .1 .1)))
 
 returns : tie.Need-returns Inv-loop μ-loop
-returns c = record {
-  is = fill-end (c .before .before .before .before .before .before .args .table .now)
-      (drop (c .before .loop .n) (c .before .before .before .before .before .before .args .numbers .now)) (c .before .loop .i)
-      (c .before .loop .q) (held (c .before .loop .a) (c .before .loop .out)) (c .loop-test .left) ∙ c .before .loop .inv .1 .1 .1;
-}
+returns c =
+    let l = c .before .loop in
+    let s = c .before .before .before .before .before .args in
+    record {
+      is =
+          fill-end (s .table .now) (drop (l .n) (s .numbers .now)) (l .i) (l .q) (held (l .a) (l .out)) (c .loop-test .left)
+          ∙ l .inv .1 .1 .1;
+    }
 
 pub put-table-spec : {M : Type 1} → statement M
 put-table-spec =

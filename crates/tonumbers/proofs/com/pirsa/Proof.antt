@@ -1,0 +1,39 @@
+-- `pirsa` meets its contract: the numbers that it lays are those of the record.
+use mathlib.Core.Path.{refl}
+use denote.Ref.{now}
+use mir.Syntax.{w32}
+use mir.Val.{Fits}
+use borrow.Author.Needs.{needs}
+use Rattle.slots.proofs.Fitting.{wide}
+use Rattle.slots.proofs.Rows.{_⋮_, laid-by}
+use Rattle.tonumbers.specs.Layout.{pirsaLayout}
+use Rattle.tonumbers.proofs.com.pirsa.Statement.{statement}
+use Rattle.tonumbers.proofs.com.pirsa.Tie as tie
+
+-- The values fit 32 bits.
+fits : (c : tie.Start)
+    → Fits w32 (c .args .r .gps)
+    × Fits w32 (c .args .r .glonass)
+fits c = (search needs, search needs)
+
+returns : tie.Need-returns
+unfolding pirsaLayout
+returns c =
+    let s = c .before .before .before .before .before .before in
+    let r = s .args .r in
+    let f = fits s in
+    laid-by (now (s .args .out)) _ _ (c .before .lay .ensures)
+    (wide (r .gps) (f .0)
+    ⋮ wide (r .glonass) (f .1)
+    ⋮ refl)
+
+pub pirsa-spec : {M : Type 1} → statement M
+pirsa-spec =
+    tie.close
+    (tie.spec
+    (λ c. search needs)
+    (λ c. search needs)
+    (λ c. search needs)
+    (λ c κs. search needs)
+    (λ c. search needs)
+    returns)
