@@ -26,14 +26,13 @@ use Rattle.finder.proofs.History as History
 use Rattle.finder.proofs.SliceLines as SliceLines
 use Rattle.address.specs.declared.Address.the-variants.{Unknown}
 use Rattle.address.specs.Address.{addressOf}
-use Rattle.records.specs.declared.Sentence.the-variants.{Refused}
-use Rattle.records.specs.Blank.{aloneOf}
-use Rattle.reading.specs.Lines.{readBody, readLine, refusal, refusalOf}
-use Rattle.reading.proofs.Order as Order
+use Rattle.sentence.specs.Sentence.{Refused}
+use Rattle.sentence.specs.Lines.{readBody, readLine, refusal, refusalOf}
+use Rattle.sentence.proofs.Order as Order
 use Rattle.address.specs.declared.Talker.{Talker}
-use Rattle.records.specs.declared.Gga.{Gga}
-use Rattle.records.specs.declared.Sentence.the-variants as S
-use Rattle.records.specs.declared.Entry.{Entry}
+use Rattle.kind_gga.specs.declared.Gga.{Gga}
+use Rattle.sentence.specs.Sentence as S
+use Rattle.kind_gsv.specs.declared.Entry.{Entry}
 use Rattle.sky.specs.Group as Group
 use Rattle.sky.proofs.Damage as Damage
 use Rattle.sky.specs.declared.Table.{Table}
@@ -51,13 +50,14 @@ use Rattle.receiver.specs.declared.Done.{Done}
 use Rattle.receiver.specs.declared.Settings.{Settings}
 use Rattle.receiver.specs.Settings.{settingsGood}
 use Rattle.receiver.specs.Command.{Does, namedPort, Outcome, outcomeOf, portTold, sentenceOutcome, settingsAfter}
-use Rattle.records.specs.declared.PortAsked.{PortAsked}
-use Rattle.records.specs.declared.Reading.{Reading}
-use Rattle.fromnumbers.specs.Back.{ggaAt, recordAt}
-use Rattle.hostrecords.specs.ToHost.{laidFor, toldFor}
-use Rattle.hostrecords.specs.FromHost.{writtenAs}
-use Rattle.slots.specs.Slots.{isThere, isWhole}
-use Rattle.slots.specs.Layout.{numberAt}
+use Rattle.kind_pir_port.specs.declared.command.PortAsked.{PortAsked}
+use Rattle.sentence.specs.Sentence.{Sentence}
+use Rattle.kind_gga.specs.Row.{ggaAt}
+use Rattle.sentence.specs.Back.{recordAt}
+use Rattle.sentence.specs.ToHost.{laidFor, toldFor}
+use Rattle.sentence.specs.FromHost.{writtenAs}
+use Rattle.numbers.specs.Numbers.{isThere, isWhole}
+use Rattle.numbers.specs.Layout.{numberAt}
 use Rattle.tripsnumbers.proofs.Host as Host
 use Rattle.claims.proofs.WrongNumbers as Wrong
 use Rattle.claims.proofs.Commands as Commands
@@ -184,7 +184,7 @@ pub slice-rest : (s : List ℕ) (at : ℕ) → foundAt s at .line ≡ false → 
 slice-rest = SliceLines.slice-rest
 
 -- A line that fails the line rule is refused with that number at field 0, and holds no record ..
-pub read-refused : (l : List ℕ) → (lineRefusal l ≡ 0 → ⊥) → readLine l ≡ aloneOf (Refused (lineRefusal l) 0)
+pub read-refused : (l : List ℕ) → (lineRefusal l ≡ 0 → ⊥) → readLine l ≡ Refused (lineRefusal l) 0
 read-refused = Order.refused
 
 -- .. one that passes is read of its body; an unknown address is 3. What each kind comes to stands in specs/, as a table of its fields; the
@@ -192,7 +192,7 @@ read-refused = Order.refused
 pub read-sound : (l : List ℕ) → lineRefusal l ≡ 0 → readLine l ≡ readBody (bodyOf l)
 read-sound = Order.sound
 
-pub read-unknown : (l : List ℕ) → lineRefusal l ≡ 0 → addressOf (bodyOf l) ≡ Unknown → readLine l ≡ aloneOf (Refused 3 0)
+pub read-unknown : (l : List ℕ) → lineRefusal l ≡ 0 → addressOf (bodyOf l) ≡ Unknown → readLine l ≡ Refused 3 0
 read-unknown = Order.unknown
 
 -- The place of a 5: it is one of the fields; whatever stands in the fields after it, they are refused with 5 at the same field ..
@@ -205,8 +205,8 @@ five-stays a n field other w e = Fives.five a n field w e .stays other
 
 -- .. of two lines too, with the same address, as many fields, and the same up to the one that is named ..
 pub five-line : (l m : List ℕ) (w : ℕ) → lineRefusal l ≡ 0 → lineRefusal m ≡ 0 → addressOf (bodyOf m) ≡ addressOf (bodyOf l)
-    → length (fieldsOf (bodyOf m)) ≡ length (fieldsOf (bodyOf l)) → refusalOf (readLine l .sentence) ≡ refusal 5 w
-    → Agree (theFields (bodyOf l)) (theFields (bodyOf m)) suc w → refusalOf (readLine m .sentence) ≡ refusal 5 w
+    → length (fieldsOf (bodyOf m)) ≡ length (fieldsOf (bodyOf l)) → refusalOf (readLine l) ≡ refusal 5 w
+    → Agree (theFields (bodyOf l)) (theFields (bodyOf m)) suc w → refusalOf (readLine m) ≡ refusal 5 w
 five-line = Lines.five-line
 
 -- .. and the fields before it can be completed to fields that are read, the length of the line aside ..
@@ -230,7 +230,7 @@ rest-stays = Writing.rest-stays
 
 -- What we write reads back as the same record and talker: here GGA; file Writing has it for each of the fifteen kinds.
 pub gga-back : (t : Talker) (r : Gga) {out left : List ℕ} {answer : Written} → Writes (faultAt (ggaWrong r)) (ggaBody t r) out answer left
-    → answer .no ≡ 0 → readLine (take (answer .length) left) ≡ aloneOf (S.Gga t r)
+    → answer .no ≡ 0 → readLine (take (answer .length) left) ≡ S.Gga t r
 gga-back = Writing.gga-back
 
 -- What was read can be written: of every kind, it is in range, and its line fits.
@@ -255,7 +255,7 @@ settings-stay-in-range = Replies.settings-stay-in-range
 -- .. and the reply reads back as the record of the values after the command: here PIRPA; file Replies has it for each of the four.
 pub port-reply : (s : Settings) (p : ℕ) {out : List ℕ} {d : Done} {left : List ℕ} (r : PortAsked)
     → Does s (sentenceOutcome s p (S.Pr r)) out d left
-    → d .written .no ≡ 0 → readLine (take (d .written .length) left) ≡ aloneOf (S.Pa (portTold (d .settings) (namedPort p r)))
+    → d .written .no ≡ 0 → readLine (take (d .written .length) left) ≡ S.Pa (portTold (d .settings) (namedPort p r))
 port-reply = Replies.port-reply
 
 -- A step that replies and alters nothing is not the step.
@@ -267,7 +267,7 @@ pub host-back : (l : List ℕ) (numbers : List ℤ) → (toldFor (readLine l) nu
     → recordAt (toldFor (readLine l) numbers .kind) (laidFor (readLine l) numbers) ≡ readLine l
 host-back = Host.host-back
 
-pub host-refusal-leaves : (r : Reading) (numbers : List ℤ) → (toldFor r numbers .no ≡ 0 → ⊥) → laidFor r numbers ≡ numbers
+pub host-refusal-leaves : (r : Sentence) (numbers : List ℤ) → (toldFor r numbers .no ≡ 0 → ⊥) → laidFor r numbers ≡ numbers
 host-refusal-leaves = Host.refusal-leaves
 
 -- A number of a host that is no mark never passes for one: its value is outside every range. So for all marks of a GGA ..

@@ -10,10 +10,10 @@ use lib.Dec.{eqb}
 use lib.Count.{ones}
 use lib.ListN.{length}
 use borrow.Author.Tests.{ne-eqb}
-use Rattle.records.specs.declared.DatumAsked.{DatumAsked}
-use Rattle.records.specs.declared.MasksAsked.{MasksAsked}
-use Rattle.records.specs.declared.PortAsked.{PortAsked}
-use Rattle.records.specs.declared.Sentence.the-variants as S
+use Rattle.kind_pir_datum.specs.declared.command.DatumAsked.{DatumAsked}
+use Rattle.kind_pir_masks.specs.declared.command.MasksAsked.{MasksAsked}
+use Rattle.kind_pir_port.specs.declared.command.PortAsked.{PortAsked}
+use Rattle.sentence.specs.Sentence as S
 use Rattle.frame.specs.declared.Written.{Written}
 use Rattle.digits.specs.Pick.{pick}
 use Rattle.frame.specs.Written.{faultAt, leftOf, writtenOf}

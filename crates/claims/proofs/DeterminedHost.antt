@@ -1,47 +1,53 @@
 -- The numbers that cross to a host, and the functions that it calls: any two results that a contract permits are equal, in the answer, in
 -- each number that is set and in each lent slice.
 use Prim.Native.Nat.{ℕ}
-use mathlib.Core.List.{List}
+use mathlib.Core.List.{[], List}
+use mathlib.Core.Bool.{Bool, false}
 use lib.Dec.{leb}
 use lib.ListN.{length, getD}
 use lib.IntN.{ℤ, pos}
-use Rattle.slots.specs.Slots.{isThere, isMark, isWhole, laid, talkerNumber, talkerOf}
-use Rattle.slots.specs.Layout.{whole, signed, maybeLayout, numberLayout, knotsLayout, kmhLayout, signedLayout, zoneLayout, placeLayout}
-use Rattle.slots.specs.Layout.{dateLayout, entryLayout}
+use Rattle.numbers.specs.Numbers.{isThere, isMark, isWhole, laid, talkerNumber, talkerOf}
+use Rattle.numbers.specs.Layout.{whole, signed}
+use Rattle.numbers.specs.Told.{gives, told}
+use Rattle.kind_gsv.specs.declared.Entry.{Entry}
+use Rattle.form.specs.Numbers.{maybeLayout}
+use Rattle.form_number.specs.Numbers.{numberLayout, knotsLayout, kmhLayout, signedLayout}
+use Rattle.form_date.specs.Numbers.{zoneLayout}
+use Rattle.form_position.specs.Numbers.{placeLayout}
+use Rattle.form_date.specs.Numbers.{dateLayout}
+use Rattle.kind_gsv.specs.Row.{entryLayout}
 use Rattle.address.specs.declared.Talker.{Talker}
-use Rattle.records.specs.declared.Gga.{Gga}
-use Rattle.tonumbers.specs.Layout.{ggaNumbers, gllNumbers, gsaNumbers, gsvNumbers, rmcNumbers, vtgNumbers, zdaNumbers, pirprNumbers}
-use Rattle.tonumbers.specs.Layout.{pirtrNumbers, pirsrNumbers, pirpaNumbers, pirtaNumbers, pirsaNumbers, pireaNumbers}
-use Rattle.tonumbers.specs.Layout.{numbersOf, kindOf, countOf}
-use Rattle.records.specs.declared.Gll.{Gll}
-use Rattle.records.specs.declared.Gsa.{Gsa}
-use Rattle.records.specs.declared.Gsv.{Gsv}
-use Rattle.records.specs.declared.Rmc.{Rmc}
-use Rattle.records.specs.declared.Vtg.{Vtg}
-use Rattle.records.specs.declared.Zda.{Zda}
-use Rattle.records.specs.declared.PortAsked.{PortAsked}
-use Rattle.records.specs.declared.DatumAsked.{DatumAsked}
-use Rattle.records.specs.declared.MasksAsked.{MasksAsked}
-use Rattle.records.specs.declared.PortTold.{PortTold}
-use Rattle.records.specs.declared.DatumTold.{DatumTold}
-use Rattle.records.specs.declared.MasksTold.{MasksTold}
-use Rattle.records.specs.declared.CodeTold.{CodeTold}
-use Rattle.records.specs.declared.Reading.{Reading}
-use Rattle.records.specs.declared.Sentence.{Sentence}
-use Rattle.fromnumbers.specs.Back.{ggaAt, gllAt, gsaAt, gsvAt, rmcAt, vtgAt, zdaAt, pirprAt, pirtrAt, pirsrAt, pirpaAt, pirtaAt}
-use Rattle.fromnumbers.specs.Back.{pirsaAt, pireaAt, addressAt}
+use Rattle.address.specs.declared.Kind.{Kind}
+use Rattle.address.specs.declared.Pir.{Pir}
+use Rattle.sentence.specs.Numbers.{countOf}
+use Rattle.kind_gga.specs.Row.{ggaAt}
+use Rattle.kind_gll.specs.Row.{gllAt}
+use Rattle.kind_gsa.specs.Row.{gsaAt}
+use Rattle.kind_gsv.specs.Row.{gsvAt}
+use Rattle.kind_rmc.specs.Row.{rmcAt}
+use Rattle.kind_vtg.specs.Row.{vtgAt}
+use Rattle.kind_zda.specs.Row.{zdaAt}
+use Rattle.kind_pir_port.specs.Command.{pirprAt}
+use Rattle.kind_pir_datum.specs.Command.{pirtrAt}
+use Rattle.kind_pir_masks.specs.Command.{pirsrAt}
+use Rattle.kind_pir_port.specs.Reply.{pirpaAt}
+use Rattle.kind_pir_datum.specs.Reply.{pirtaAt}
+use Rattle.kind_pir_masks.specs.Reply.{pirsaAt}
+use Rattle.kind_pir_code.specs.Reply.{pireaAt}
+use Rattle.sentence.specs.Back.{addressAt, makerAt, standardAt}
 use Rattle.sky.specs.declared.Table.{Table}
 use Rattle.skynumbers.specs.Numbers.{skyNumbers, tableAt}
 use Rattle.receiver.specs.declared.Settings.{Settings}
 use Rattle.settingnumbers.specs.Numbers.{settingNumbers, settingsAt, said}
 use Rattle.receiver.specs.Settings.{atStart}
-use Rattle.reading.specs.Lines.{readLine}
-use Rattle.hostrecords.specs.ToHost.{toldFor, laidFor}
-use Rattle.hostrecords.specs.FromHost.{writtenAs, leftAs}
+use Rattle.sentence.specs.Lines.{readLine}
+use Rattle.sentence.specs.ToHost.{toldFor, laidFor}
+use Rattle.sentence.specs.FromHost.{leftAs, maskOver, numbersFault, recordBody, writtenAs}
 use Rattle.sky.specs.Group.{groupOf}
 use Rattle.host.specs.Group.{handed, groupPut}
 use Rattle.host.specs.Command.{startNo, stepped, countsAt}
 use Rattle.claims.proofs.Determined.{One, one}
+use Rattle.claims.proofs.DeterminedWriting.{one-writing, OneWriting}
 
 -- Values laid at the start of a lent slice: whether there was room, and the slice after it.
 abbrev OneLaying : List ℤ → List ℤ → Type 0
@@ -50,81 +56,45 @@ OneLaying values out = One (leb (length values) (length out)) × One (laid value
 laying : (values out : List ℤ) → OneLaying values out
 laying values out = (one, one)
 
--- slots
-pub slot-at : (numbers : List ℤ) (i : ℕ) → One (getD numbers i (pos 0))
-slot-at numbers i = one
+-- numbers
+pub number-in : (numbers : List ℤ) (i : ℕ) → One (getD numbers i (pos 0))
+number-in numbers i = one
 
-pub slots-lay : (values out : List ℤ) → OneLaying values out
-slots-lay = laying
+pub numbers-lay : (values out : List ℤ) → OneLaying values out
+numbers-lay = laying
 
-pub slot-there : (numbers : List ℤ) (i : ℕ) → One (isThere (getD numbers i (pos 0)))
-slot-there numbers i = one
+pub number-there : (numbers : List ℤ) (i : ℕ) → One (isThere (getD numbers i (pos 0)))
+number-there numbers i = one
 
-pub slot-mark : (numbers : List ℤ) (i : ℕ) → One (isMark (getD numbers i (pos 0)))
-slot-mark numbers i = one
+pub number-mark : (numbers : List ℤ) (i : ℕ) → One (isMark (getD numbers i (pos 0)))
+number-mark numbers i = one
 
-pub slot-whole : (numbers : List ℤ) (i : ℕ) → One (isWhole (getD numbers i (pos 0))) × One (whole .at numbers i)
-slot-whole numbers i = (one, one)
+pub number-whole : (numbers : List ℤ) (i : ℕ) → One (isWhole (getD numbers i (pos 0))) × One (whole .at numbers i)
+number-whole numbers i = (one, one)
 
-pub slot-signed : (numbers : List ℤ) (i : ℕ) → One (signed .at numbers i)
-slot-signed numbers i = one
+pub number-signed : (numbers : List ℤ) (i : ℕ) → One (signed .at numbers i)
+number-signed numbers i = one
 
-pub slot-talker-number : (t : Talker) → One (talkerNumber t)
-slot-talker-number t = one
+pub number-talker-number : (t : Talker) → One (talkerNumber t)
+number-talker-number t = one
 
-pub slot-talker-of : (n : ℕ) → One (talkerOf n)
-slot-talker-of n = one
+pub number-talker-of : (n : ℕ) → One (talkerOf n)
+number-talker-of n = one
 
--- tonumbers
-pub lay-gga : (t : Talker) (r : Gga) (out : List ℤ) → OneLaying (ggaNumbers t r) out
-lay-gga t r = laying (ggaNumbers t r)
+-- What a host is told, and the numbers of a record laid.
+pub tell-refused : (n field : ℕ) → One (told n 0 field)
+tell-refused n field = one
 
-pub lay-gll : (t : Talker) (r : Gll) (out : List ℤ) → OneLaying (gllNumbers t r) out
-lay-gll t r = laying (gllNumbers t r)
+pub tell-bare : (kind : ℕ) → One (told 0 kind 0)
+tell-bare kind = one
 
-pub lay-gsa : (t : Talker) (r : Gsa) (out : List ℤ) → OneLaying (gsaNumbers t r) out
-lay-gsa t r = laying (gsaNumbers t r)
+pub tell-laid : (out values : List ℤ) (kind : ℕ) → One (gives out kind values .0) × One (gives out kind values .1)
+tell-laid out values kind = (one, one)
 
-pub lay-gsv : (t : Talker) (r : Gsv) (out : List ℤ) → OneLaying (gsvNumbers t r) out
-lay-gsv t r = laying (gsvNumbers t r)
+pub lay-entry : (e : Entry) (out : List ℤ) → One (laid (entryLayout .numbers e []) out)
+lay-entry e out = one
 
-pub lay-rmc : (t : Talker) (r : Rmc) (out : List ℤ) → OneLaying (rmcNumbers t r) out
-lay-rmc t r = laying (rmcNumbers t r)
-
-pub lay-vtg : (t : Talker) (r : Vtg) (out : List ℤ) → OneLaying (vtgNumbers t r) out
-lay-vtg t r = laying (vtgNumbers t r)
-
-pub lay-zda : (t : Talker) (r : Zda) (out : List ℤ) → OneLaying (zdaNumbers t r) out
-lay-zda t r = laying (zdaNumbers t r)
-
-pub lay-pirpr : (r : PortAsked) (out : List ℤ) → OneLaying (pirprNumbers r) out
-lay-pirpr r = laying (pirprNumbers r)
-
-pub lay-pirtr : (r : DatumAsked) (out : List ℤ) → OneLaying (pirtrNumbers r) out
-lay-pirtr r = laying (pirtrNumbers r)
-
-pub lay-pirsr : (r : MasksAsked) (out : List ℤ) → OneLaying (pirsrNumbers r) out
-lay-pirsr r = laying (pirsrNumbers r)
-
-pub lay-pirpa : (r : PortTold) (out : List ℤ) → OneLaying (pirpaNumbers r) out
-lay-pirpa r = laying (pirpaNumbers r)
-
-pub lay-pirta : (r : DatumTold) (out : List ℤ) → OneLaying (pirtaNumbers r) out
-lay-pirta r = laying (pirtaNumbers r)
-
-pub lay-pirsa : (r : MasksTold) (out : List ℤ) → OneLaying (pirsaNumbers r) out
-lay-pirsa r = laying (pirsaNumbers r)
-
-pub lay-pirea : (r : CodeTold) (out : List ℤ) → OneLaying (pireaNumbers r) out
-lay-pirea r = laying (pireaNumbers r)
-
-pub lay-record : (r : Reading) (out : List ℤ) → OneLaying (numbersOf r) out
-lay-record r = laying (numbersOf r)
-
-pub kind-of : (s : Sentence) → One (kindOf s)
-kind-of s = one
-
--- fromnumbers
+-- Records and values from numbers.
 pub gga-at : (n : List ℤ) → One (ggaAt n)
 gga-at n = one
 
@@ -216,7 +186,7 @@ settings-at n = one
 pub settings-said : (n : List ℤ) → One (said n)
 settings-said n = one
 
--- hostrecords, host: each exported function hands on the answer of one definition, its struct taken apart into lent numbers.
+-- sentence, host: each exported function hands on the answer of one definition, its struct taken apart into lent numbers.
 pub host-record : (line : List ℕ) (numbers : List ℤ)
     → One (toldFor (readLine line) numbers) × One (laidFor (readLine line) numbers)
 host-record line numbers = (one, one)
@@ -225,6 +195,14 @@ pub host-read-numbers : (line : List ℕ) (numbers : List ℤ)
     → One (toldFor (readLine line) numbers .no) × One (toldFor (readLine line) numbers .kind)
     × One (toldFor (readLine line) numbers .field) × One (laidFor (readLine line) numbers)
 host-read-numbers line numbers = (one, one, one, one)
+
+pub write-standard : (t : Talker) (k : Kind) (n : List ℤ) (out : List ℕ)
+    → OneWriting (numbersFault false (standardAt t k n)) (recordBody (standardAt t k n)) out
+write-standard t k n out = one-writing _ _ out
+
+pub write-maker : (k : Pir) (n : List ℤ) (out : List ℕ)
+    → OneWriting (numbersFault (maskOver k n) (makerAt k n)) (recordBody (makerAt k n)) out
+write-maker k n out = one-writing _ _ out
 
 pub host-line : (kind : ℕ) (numbers : List ℤ) (out : List ℕ)
     → One (writtenAs kind numbers out) × One (leftAs kind numbers out)

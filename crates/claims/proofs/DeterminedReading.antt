@@ -20,28 +20,29 @@ use Rattle.form_mask.specs.Masks.{hexDigitsOf, isPortMask, portMaskForm, satell
 use Rattle.form_mask.specs.Rates.{codeForm, rateForm}
 use Rattle.fields.specs.Places.{fieldIn, fieldsBy}
 use Rattle.address.specs.declared.Talker.{Talker}
-use Rattle.kind_gga.specs.Row.{ggaOf}
-use Rattle.kind_gll.specs.Row.{gllOf}
-use Rattle.kind_rmc.specs.Row.{rmcOf}
-use Rattle.kind_vtg.specs.Row.{vtgOf}
-use Rattle.kind_zda.specs.Row.{zdaOf}
-use Rattle.kind_gsa.specs.Row.{gsaOf}
-use Rattle.kind_gsv.specs.Row.{gsvOf}
-use Rattle.kind_pir_code.specs.Reply.{pireaOf}
-use Rattle.kind_pir_code.specs.Command.{pirerOf}
-use Rattle.kind_pir_port.specs.Reply.{pirpaOf}
-use Rattle.kind_pir_port.specs.Command.{pirprOf}
-use Rattle.kind_pir_masks.specs.Reply.{pirsaOf}
-use Rattle.kind_pir_masks.specs.Command.{pirsrOf}
-use Rattle.kind_pir_datum.specs.Reply.{pirtaOf}
-use Rattle.kind_pir_datum.specs.Command.{pirtrOf}
-use Rattle.reading.specs.Lines.{readLine, refusalOf}
-use Rattle.records.specs.declared.Sentence.{Sentence}
+use lib.IntN.{ℤ}
+use Rattle.numbers.specs.Told.{Answer}
+use Rattle.kind_gga.specs.Row.{ggaTold}
+use Rattle.kind_gll.specs.Row.{gllTold}
+use Rattle.kind_rmc.specs.Row.{rmcTold}
+use Rattle.kind_vtg.specs.Row.{vtgTold}
+use Rattle.kind_zda.specs.Row.{zdaTold}
+use Rattle.kind_gsa.specs.Row.{gsaTold}
+use Rattle.kind_gsv.specs.Row.{gsvTold}
+use Rattle.kind_pir_code.specs.Reply.{pireaTold}
+use Rattle.kind_pir_code.specs.Command.{pirerTold}
+use Rattle.kind_pir_port.specs.Reply.{pirpaTold}
+use Rattle.kind_pir_port.specs.Command.{pirprTold}
+use Rattle.kind_pir_masks.specs.Reply.{pirsaTold}
+use Rattle.kind_pir_masks.specs.Command.{pirsrTold}
+use Rattle.kind_pir_datum.specs.Reply.{pirtaTold}
+use Rattle.kind_pir_datum.specs.Command.{pirtrTold}
+use Rattle.sentence.specs.Lines.{readLine, refusalOf}
 use Rattle.form_date.specs.Values.{datedOf, zonedIf, zonedOf}
 use Rattle.form.specs.Values.{keptIf, keptOf, neededInt, neededWrong}
 use Rattle.form_number.specs.Values.{kmhOf, knotsOf, numberOf as keptNumber, signedOf}
 use Rattle.form_position.specs.Values.{placedOf}
-use Rattle.records.specs.Blank.{aloneOf, blankEntry, blankGsa, blankGsv}
+use Rattle.kind_gsv.specs.Blank.{blankEntry, blankGsv}
 use Rattle.form.specs.Wrong.{nearOf}
 use Rattle.form.specs.declared.got.Got.{Got}
 use Rattle.form.specs.declared.got.GotInt.{GotInt}
@@ -173,14 +174,8 @@ kept-needed-int needed g = one
 pub blank-entry : One blankEntry
 blank-entry = one
 
-pub blank-gsa : One blankGsa
-blank-gsa = one
-
 pub blank-gsv : One blankGsv
 blank-gsv = one
-
-pub blank-alone : (sentence : Sentence) → One (aloneOf sentence)
-blank-alone sentence = one
 
 -- kinds
 pub time-in : (s : List ℕ) (p : List ℕ) (k : ℕ) → One (timeForm (fieldIn p k s))
@@ -244,61 +239,58 @@ unit-in s p k there b = one
 pub empty-in : (s : List ℕ) (p : List ℕ) (k : ℕ) → One (emptyWrong (fieldIn p k s))
 empty-in s p k = one
 
--- navigation
-pub read-gga : (t : Talker) (n : ℕ) (s : List ℕ) (p : List ℕ) → One (ggaOf t n (fieldsBy p s))
-read-gga t n s p = one
+-- A reader of a kind tells and leaves the numbers as one definition says.
+abbrev OneAnswer : Answer → Type 0
+OneAnswer a = One (a .0) × One (a .1)
 
-pub read-gll : (t : Talker) (n : ℕ) (s : List ℕ) (p : List ℕ) → One (gllOf t n (fieldsBy p s))
-read-gll t n s p = one
+answer : (a : Answer) → OneAnswer a
+answer a = (one, one)
 
-pub read-rmc : (t : Talker) (n : ℕ) (s : List ℕ) (p : List ℕ) → One (rmcOf t n (fieldsBy p s))
-read-rmc t n s p = one
+pub read-gga : (out : List ℤ) (t : Talker) (n : ℕ) (s p : List ℕ) → OneAnswer (ggaTold out t n (fieldsBy p s))
+read-gga out t n s p = answer _
 
-pub read-vtg : (t : Talker) (n : ℕ) (s : List ℕ) (p : List ℕ) → One (vtgOf t n (fieldsBy p s))
-read-vtg t n s p = one
+pub read-gll : (out : List ℤ) (t : Talker) (n : ℕ) (s p : List ℕ) → OneAnswer (gllTold out t n (fieldsBy p s))
+read-gll out t n s p = answer _
 
-pub read-zda : (t : Talker) (n : ℕ) (s : List ℕ) (p : List ℕ) → One (zdaOf t n (fieldsBy p s))
-read-zda t n s p = one
+pub read-rmc : (out : List ℤ) (t : Talker) (n : ℕ) (s p : List ℕ) → OneAnswer (rmcTold out t n (fieldsBy p s))
+read-rmc out t n s p = answer _
 
--- satellites
-pub read-gsa : (t : Talker) (n : ℕ) (s : List ℕ) (p : List ℕ) → One (gsaOf t n (fieldsBy p s))
-read-gsa t n s p = one
+pub read-vtg : (out : List ℤ) (t : Talker) (n : ℕ) (s p : List ℕ) → OneAnswer (vtgTold out t n (fieldsBy p s))
+read-vtg out t n s p = answer _
 
-pub read-gsv : (t : Talker) (n : ℕ) (s : List ℕ) (p : List ℕ) → One (gsvOf t n (fieldsBy p s))
-read-gsv t n s p = one
+pub read-zda : (out : List ℤ) (t : Talker) (n : ℕ) (s p : List ℕ) → OneAnswer (zdaTold out t n (fieldsBy p s))
+read-zda out t n s p = answer _
 
--- commands
-pub read-pirea : (n : ℕ) (s : List ℕ) (p : List ℕ) → One (pireaOf n (fieldsBy p s))
-read-pirea n s p = one
+pub read-gsa : (out : List ℤ) (t : Talker) (n : ℕ) (s p : List ℕ) → OneAnswer (gsaTold out t n (fieldsBy p s))
+read-gsa out t n s p = answer _
 
-pub read-pirer : (n : ℕ) (s : List ℕ) (p : List ℕ) → One (pirerOf n (fieldsBy p s))
-read-pirer n s p = one
+pub read-gsv : (out : List ℤ) (t : Talker) (n : ℕ) (s p : List ℕ) → OneAnswer (gsvTold out t n (fieldsBy p s))
+read-gsv out t n s p = answer _
 
-pub read-pirpa : (n : ℕ) (s : List ℕ) (p : List ℕ) → One (pirpaOf n (fieldsBy p s))
-read-pirpa n s p = one
+pub read-pirea : (out : List ℤ) (n : ℕ) (s p : List ℕ) → OneAnswer (pireaTold out n (fieldsBy p s))
+read-pirea out n s p = answer _
 
-pub read-pirpr : (n : ℕ) (s : List ℕ) (p : List ℕ) → One (pirprOf n (fieldsBy p s))
-read-pirpr n s p = one
+pub read-pirer : (out : List ℤ) (n : ℕ) (s p : List ℕ) → OneAnswer (pirerTold out n (fieldsBy p s))
+read-pirer out n s p = answer _
 
-pub read-pirsa : (n : ℕ) (s : List ℕ) (p : List ℕ) → One (pirsaOf n (fieldsBy p s))
-read-pirsa n s p = one
+pub read-pirpa : (out : List ℤ) (n : ℕ) (s p : List ℕ) → OneAnswer (pirpaTold out n (fieldsBy p s))
+read-pirpa out n s p = answer _
 
-pub read-pirsr : (n : ℕ) (s : List ℕ) (p : List ℕ) → One (pirsrOf n (fieldsBy p s))
-read-pirsr n s p = one
+pub read-pirpr : (out : List ℤ) (n : ℕ) (s p : List ℕ) → OneAnswer (pirprTold out n (fieldsBy p s))
+read-pirpr out n s p = answer _
 
-pub read-pirta : (n : ℕ) (s : List ℕ) (p : List ℕ) → One (pirtaOf n (fieldsBy p s))
-read-pirta n s p = one
+pub read-pirsa : (out : List ℤ) (n : ℕ) (s p : List ℕ) → OneAnswer (pirsaTold out n (fieldsBy p s))
+read-pirsa out n s p = answer _
 
-pub read-pirtr : (n : ℕ) (s : List ℕ) (p : List ℕ) → One (pirtrOf n (fieldsBy p s))
-read-pirtr n s p = one
+pub read-pirsr : (out : List ℤ) (n : ℕ) (s p : List ℕ) → OneAnswer (pirsrTold out n (fieldsBy p s))
+read-pirsr out n s p = answer _
 
--- reading
-pub read-line : (line : List ℕ) → One (readLine line)
-read-line line = one
+pub read-pirta : (out : List ℤ) (n : ℕ) (s p : List ℕ) → OneAnswer (pirtaTold out n (fieldsBy p s))
+read-pirta out n s p = answer _
 
-pub refusal-of : (sentence : Sentence) → One (refusalOf sentence)
-refusal-of sentence = one
+pub read-pirtr : (out : List ℤ) (n : ℕ) (s p : List ℕ) → OneAnswer (pirtrTold out n (fieldsBy p s))
+read-pirtr out n s p = answer _
 
 -- host
-pub host-refusal : (line : List ℕ) → One (refusalOf (readLine line .sentence) .no) × One (refusalOf (readLine line .sentence) .field)
+pub host-refusal : (line : List ℕ) → One (refusalOf (readLine line) .no) × One (refusalOf (readLine line) .field)
 host-refusal line = (one, one)

@@ -8,7 +8,7 @@ use lib.IntN.{ℤ}
 use lib.ListN.{drop}
 use Rattle.digits.specs.Sign.{signText}
 use Rattle.text.specs.Numbers.{decimalText, intText}
-use Rattle.hostrecords.specs.declared.Told.{Told}
+use Rattle.numbers.specs.declared.Told.{Told}
 use Rattle.rows.specs.Row.{toldRow}
 use Rattle.turns.specs.Turns.{Keeps, part}
 use Rattle.claims.proofs.Determined.{One, one}

@@ -25,37 +25,37 @@ use Rattle.form_number.specs.Values.{heightText}
 use Rattle.frame.specs.declared.Written.{Written}
 use Rattle.frame.specs.Body.{talkerText}
 use Rattle.frame.specs.Written.{faultAt, refused, Writes}
-use Rattle.records.specs.declared.Entry.{Entry}
-use Rattle.records.specs.declared.Gsa.{Gsa}
+use Rattle.kind_gsv.specs.declared.Entry.{Entry}
+use Rattle.kind_gsa.specs.declared.Gsa.{Gsa}
 use Rattle.form.specs.Wrong.{nearOf}
-use Rattle.records.specs.declared.Gsv.{Gsv}
+use Rattle.kind_gsv.specs.declared.Gsv.{Gsv}
 use Rattle.kind_gsa.specs.Row.{gsaBody, gsaWrong}
 use Rattle.kind_gsv.specs.Writing.{gsvBody, gsvFault}
-use Rattle.records.specs.Blank.{isBlank}
+use Rattle.kind_gsv.specs.Blank.{isBlank}
 use Rattle.kind_pir_code.specs.Command.{pirerBody}
-use Rattle.records.specs.declared.Gga.{Gga}
+use Rattle.kind_gga.specs.declared.Gga.{Gga}
 use Rattle.kind_gga.specs.Row.{ggaBody, ggaWrong}
-use Rattle.records.specs.declared.Gll.{Gll}
+use Rattle.kind_gll.specs.declared.Gll.{Gll}
 use Rattle.kind_gll.specs.Row.{gllBody, gllWrong}
-use Rattle.records.specs.declared.Rmc.{Rmc}
+use Rattle.kind_rmc.specs.declared.Rmc.{Rmc}
 use Rattle.kind_rmc.specs.Row.{rmcBody, rmcWrong}
-use Rattle.records.specs.declared.Vtg.{Vtg}
+use Rattle.kind_vtg.specs.declared.Vtg.{Vtg}
 use Rattle.kind_vtg.specs.Row.{vtgBody, vtgWrong}
-use Rattle.records.specs.declared.Zda.{Zda}
+use Rattle.kind_zda.specs.declared.Zda.{Zda}
 use Rattle.kind_zda.specs.Row.{zdaBody, zdaWrong}
-use Rattle.records.specs.declared.PortAsked.{PortAsked}
+use Rattle.kind_pir_port.specs.declared.command.PortAsked.{PortAsked}
 use Rattle.kind_pir_port.specs.Command.{pirprBody, pirprWrong}
-use Rattle.records.specs.declared.DatumAsked.{DatumAsked}
+use Rattle.kind_pir_datum.specs.declared.command.DatumAsked.{DatumAsked}
 use Rattle.kind_pir_datum.specs.Command.{pirtrBody, pirtrWrong}
-use Rattle.records.specs.declared.MasksAsked.{MasksAsked}
+use Rattle.kind_pir_masks.specs.declared.command.MasksAsked.{MasksAsked}
 use Rattle.kind_pir_masks.specs.Command.{pirsrBody, pirsrWrong}
-use Rattle.records.specs.declared.PortTold.{PortTold}
+use Rattle.kind_pir_port.specs.declared.reply.PortTold.{PortTold}
 use Rattle.kind_pir_port.specs.Reply.{pirpaBody, pirpaWrong}
-use Rattle.records.specs.declared.DatumTold.{DatumTold}
+use Rattle.kind_pir_datum.specs.declared.reply.DatumTold.{DatumTold}
 use Rattle.kind_pir_datum.specs.Reply.{pirtaBody, pirtaWrong}
-use Rattle.records.specs.declared.MasksTold.{MasksTold}
+use Rattle.kind_pir_masks.specs.declared.reply.MasksTold.{MasksTold}
 use Rattle.kind_pir_masks.specs.Reply.{pirsaBody, pirsaWrong}
-use Rattle.records.specs.declared.CodeTold.{CodeTold}
+use Rattle.kind_pir_code.specs.declared.reply.CodeTold.{CodeTold}
 use Rattle.kind_pir_code.specs.Reply.{pireaBody, pireaWrong}
 use Rattle.sky.specs.Group.{entriesAt, linesFor}
 use Rattle.sky.specs.Marks.{hadIf, markedIf}
@@ -82,7 +82,7 @@ one-fields d at fields r q e f p s = halves r q e f (p .is ∙ sym (s .is))
 abbrev pub OneWriting : Written → List ℕ → List ℕ → Type 0
 OneWriting fault body out = (a b : Written) (l m : List ℕ) → Writes fault body out a l → Writes fault body out b m → (a ≡ b) × (l ≡ m)
 
-one-writing : (fault : Written) (body out : List ℕ) → OneWriting fault body out
+pub one-writing : (fault : Written) (body out : List ℕ) → OneWriting fault body out
 one-writing fault body out a b l m v w = (v .answers ∙ sym (w .answers), v .leaves ∙ sym (w .leaves))
 
 -- put

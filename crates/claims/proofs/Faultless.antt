@@ -10,14 +10,12 @@ use borrow.Author.Tests.{eqb-true, ltb-true}
 use Rattle.digits.proofs.Bools.{and-left, and-right}
 use Rattle.form.specs.Values.{alikeWrong, outside, rangeWrong, signedWrong}
 use Rattle.form_mask.specs.Masks.{portWrong}
-use Rattle.records.specs.declared.DatumAsked.{DatumAsked}
-use Rattle.records.specs.declared.Gsa.{Gsa}
-use Rattle.records.specs.declared.Gsv.{Gsv}
-use Rattle.records.specs.declared.MasksAsked.{MasksAsked}
-use Rattle.records.specs.declared.PortAsked.{PortAsked}
-use Rattle.records.specs.declared.Sentence.{Sentence}
-use Rattle.records.specs.declared.Sentence.the-variants as S
-use Rattle.reading.specs.Lines.{readLine}
+use Rattle.kind_pir_datum.specs.declared.command.DatumAsked.{DatumAsked}
+use Rattle.kind_pir_masks.specs.declared.command.MasksAsked.{MasksAsked}
+use Rattle.kind_pir_port.specs.declared.command.PortAsked.{PortAsked}
+use Rattle.sentence.specs.Sentence.{Sentence}
+use Rattle.sentence.specs.Sentence as S
+use Rattle.sentence.specs.Lines.{readLine}
 use Rattle.digits.specs.Pick.{pick}
 use Rattle.frame.specs.Written.{faultAt}
 use Rattle.form.proofs.Ranged.{in-outside}
@@ -34,7 +32,7 @@ use Rattle.receiver.specs.Settings.{portGood, portOf, settingsGood, withPort}
 use Rattle.receiver.specs.Command.{afterDatum, afterMasks, afterPort, codeTold, datumTold, masksTold, namedPort, Outcome, outcomeOf}
 use Rattle.receiver.specs.Command.{portAsked, portTold, refuses, replies, sentenceOutcome}
 use Rattle.claims.proofs.Replies.{in-range, InRange, port-set}
-use Rattle.claims.proofs.Rewriting.{Writable}
+use Rattle.claims.proofs.Rewriting.{CanBeWritten}
 use Rattle.claims.proofs.Writing as Writing
 use Rattle.form.proofs.Laws.{near-zero}
 use Rattle.form.specs.Kind.{faultBy}
@@ -165,24 +163,24 @@ code-faultless : (s : Settings) → InRange s → pireaWrong (codeTold s) ≡ 0
 unfolding faultBy pireaRow nearOf
 code-faultless s g = rw (g .code)
 
-sentence-faultless : (s : Settings) (p : ℕ) (x : Sentence) (a : Gsa) (v : Gsv) → InRange s → p < 2 → Writable x a v
+sentence-faultless : (s : Settings) (p : ℕ) (x : Sentence) → InRange s → p < 2 → CanBeWritten x
     → Faultless (sentenceOutcome s p x)
-sentence-faultless s p (S.Pr r) a v g h w = zero-fault _ (port-faultless s p r g h (w .0))
-sentence-faultless s p (S.Tr r) a v g h w = zero-fault _ (datum-faultless s r g (w .0))
-sentence-faultless s p (S.Sr r) a v g h w = zero-fault _ (masks-faultless s r g (w .0))
-sentence-faultless s p S.Er a v g h w = zero-fault _ (code-faultless s g)
-sentence-faultless s p (S.Refused n f) a v g h w = tt
-sentence-faultless s p (S.Gga t r) a v g h w = tt
-sentence-faultless s p (S.Gll t r) a v g h w = tt
-sentence-faultless s p (S.Gsa t) a v g h w = tt
-sentence-faultless s p (S.Gsv t) a v g h w = tt
-sentence-faultless s p (S.Rmc t r) a v g h w = tt
-sentence-faultless s p (S.Vtg t r) a v g h w = tt
-sentence-faultless s p (S.Zda t r) a v g h w = tt
-sentence-faultless s p (S.Pa r) a v g h w = tt
-sentence-faultless s p (S.Ta r) a v g h w = tt
-sentence-faultless s p (S.Sa r) a v g h w = tt
-sentence-faultless s p (S.Ea r) a v g h w = tt
+sentence-faultless s p (S.Pr r) g h w = zero-fault _ (port-faultless s p r g h (w .0))
+sentence-faultless s p (S.Tr r) g h w = zero-fault _ (datum-faultless s r g (w .0))
+sentence-faultless s p (S.Sr r) g h w = zero-fault _ (masks-faultless s r g (w .0))
+sentence-faultless s p S.Er g h w = zero-fault _ (code-faultless s g)
+sentence-faultless s p (S.Refused n f) g h w = tt
+sentence-faultless s p (S.Gga t r) g h w = tt
+sentence-faultless s p (S.Gll t r) g h w = tt
+sentence-faultless s p (S.Gsa t r) g h w = tt
+sentence-faultless s p (S.Gsv t r) g h w = tt
+sentence-faultless s p (S.Rmc t r) g h w = tt
+sentence-faultless s p (S.Vtg t r) g h w = tt
+sentence-faultless s p (S.Zda t r) g h w = tt
+sentence-faultless s p (S.Pa r) g h w = tt
+sentence-faultless s p (S.Ta r) g h w = tt
+sentence-faultless s p (S.Sa r) g h w = tt
+sentence-faultless s p (S.Ea r) g h w = tt
 
 -- Whatever the settings, the port and the line.
 pub replies-faultless : (s : Settings) (p : ℕ) (l : List ℕ) → Faultless (outcomeOf s p l)
@@ -190,10 +188,9 @@ unfolding outcomeOf
 replies-faultless s p l = go (ltb p 2 && settingsGood s) (eqb (portOf s p .protocol) 4) refl
   where
     go : (a b : Bool) → (ltb p 2 && settingsGood s) ≡ a
-        → Faultless (pick a (pick b (sentenceOutcome s p (readLine l .sentence)) (refuses 10 1 0)) (refuses 5 0 0))
+        → Faultless (pick a (pick b (sentenceOutcome s p (readLine l)) (refuses 10 1 0)) (refuses 5 0 0))
     go true true e =
-        let r = readLine l in
-        sentence-faultless s p (r .sentence) (r .gsa) (r .gsv) (in-range s (and-right (ltb p 2) _ e)) (ltb-true p 2 (and-left _ _ e))
+        sentence-faultless s p (readLine l) (in-range s (and-right (ltb p 2) _ e)) (ltb-true p 2 (and-left _ _ e))
         (Writing.read-can-be-written l)
     go true false e = tt
     go false b e = tt

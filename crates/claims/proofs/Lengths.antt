@@ -16,18 +16,17 @@ use Rattle.fields.specs.Fields.{joinFields}
 use Rattle.form_letter.specs.Letters.{isIn, letterWrong}
 use Rattle.digits.specs.Plain.{fractionText, numberText, plainText, widthOf}
 use Rattle.form.specs.Wrong.{nearOf}
-use Rattle.records.specs.declared.CodeTold.{CodeTold}
-use Rattle.records.specs.declared.Gga.{Gga}
-use Rattle.records.specs.declared.Gsa.{Gsa}
-use Rattle.records.specs.declared.Rmc.{Rmc}
-use Rattle.records.specs.declared.Reading.{Reading}
-use Rattle.records.specs.declared.Sentence.{Sentence}
-use Rattle.records.specs.declared.Sentence.the-variants as S
+use Rattle.kind_pir_code.specs.declared.reply.CodeTold.{CodeTold}
+use Rattle.kind_gga.specs.declared.Gga.{Gga}
+use Rattle.kind_gsa.specs.declared.Gsa.{Gsa}
+use Rattle.kind_rmc.specs.declared.Rmc.{Rmc}
+use Rattle.sentence.specs.Sentence.{Sentence}
+use Rattle.sentence.specs.Sentence as S
 use Rattle.form_number.specs.declared.Number.{Number}
 use Rattle.form.specs.Values.{outside, rangeWrong, signedWrong}
 use Rattle.form_position.specs.Values.{placeWrong}
 use Rattle.form_date.specs.Values.{sixWrong}
-use Rattle.reading.specs.Lines.{readLine}
+use Rattle.sentence.specs.Lines.{readLine}
 use Rattle.kind_pir_code.specs.Reply.{pireaBody, pireaRow}
 use Rattle.kind_gga.specs.Row.{ggaBody, ggaRow, ggaWrong}
 use Rattle.kind_rmc.specs.Row.{rmcBody, rmcRow, rmcWrong}
@@ -93,7 +92,7 @@ unfolding gsaWrong gsaFields faultBy fieldsFor gsaRow nearOf rangeWrong outside 
 gsa-can-pass = (refl, lit< tt)
 
 -- One line is not written for two records: what differs when read differs when written.
-pub different-bytes : (l m : List ℕ) (r s : Reading) → readLine l ≡ r → readLine m ≡ s → (r ≡ s → ⊥) → l ≡ m → ⊥
+pub different-bytes : (l m : List ℕ) (r s : Sentence) → readLine l ≡ r → readLine m ≡ s → (r ≡ s → ⊥) → l ≡ m → ⊥
 different-bytes l m r s e f h q = h (sym e ∙ ap readLine q ∙ f)
 
 abbrev pub code : ℕ → CodeTold
@@ -103,8 +102,8 @@ abbrev codeOf : Sentence → ℕ
 codeOf (S.Ea r) = r .code
 codeOf (S.Gga t r) = 0
 codeOf (S.Gll t r) = 0
-codeOf (S.Gsa t) = 0
-codeOf (S.Gsv t) = 0
+codeOf (S.Gsa t r) = 0
+codeOf (S.Gsv t r) = 0
 codeOf (S.Rmc t r) = 0
 codeOf (S.Vtg t r) = 0
 codeOf (S.Zda t r) = 0
@@ -122,5 +121,5 @@ unfolding faultBy pireaRow nearOf outside
 no-constant-writer line e f =
     different-bytes (asLine (pireaBody (code 0))) (asLine (pireaBody (code 1))) _ _ (C.pirea .read-write (code 0) refl)
     (C.pirea .read-write (code 1) refl)
-    (λ q. let z : _≡_ {A = ℕ} 0 1 = ap (λ (r : Reading). codeOf (r .sentence)) q in omega (arith, z))
+    (λ q. let z : _≡_ {A = ℕ} 0 1 = ap codeOf q in omega (arith, z))
     (e ∙ sym f)

@@ -17,9 +17,9 @@ use Rattle.form_number.specs.Fixed.{fixedOf}
 use Rattle.form.specs.Got.{maybeOf, withinOf}
 use Rattle.form.specs.Kind.{answerBy, readBy}
 use Rattle.form.specs.Wrong.{nearOf}
-use Rattle.kind_gsv.specs.Row.{entriesOf, entryAt, entryFrom, firstOf, gsvOf, gsvRow, gsvWith}
+use Rattle.kind_gsv.specs.Row.{entriesOf, entryAt, entryFrom, firstOf, gsvRow, gsvWith}
 use Rattle.kind_gga.specs.Row.{ggaRow}
-use Rattle.reading.specs.Lines.{readBody, readLine}
+use Rattle.sentence.specs.Lines.{readBody, readLine}
 use Rattle.text.specs.Numbers.{decimalText, digitsWithin}
 use Rattle.rows.specs.Row.{addressText, answerText, fiveBytes, rowText}
 
@@ -32,5 +32,5 @@ pub worked : (listed 1 "$GPGSV,5,5,17,77,71,048,53*43\r\n" ≡ ascii "1 GPGSV ok
     × (listed 3 "$GPGGA,000008.00,,,,,0,,,,,,*40\r\n" ≡ ascii "3 GPGGA refused 4 0\n"))
 unfolding isDigit digitsFrom digitsOf hexDigit hexOf same noneOf bodyByte bodyBytes xorFrom xorOf endForm lineForm endGives lineRefusal
     lookUp knownOf commaFree addressOf onto fieldsOf fixedOf maybeOf withinOf readBy answerBy nearOf firstOf entryAt entryFrom entriesOf
-    gsvRow gsvWith gsvOf ggaRow readBody readLine bind digitsWithin decimalText fiveBytes addressText answerText
+    gsvRow gsvWith ggaRow readBody readLine bind digitsWithin decimalText fiveBytes addressText answerText
 worked = (refl, (refl, refl))

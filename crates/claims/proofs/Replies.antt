@@ -9,13 +9,12 @@ use lib.ListN.{length, take}
 use borrow.Author.Tests.{eq-eqb, eqb-true}
 use Rattle.digits.proofs.Bools.{and-left, and-right}
 use Rattle.form.specs.Values.{outside, rangeWrong, signedWrong}
-use Rattle.records.specs.declared.DatumAsked.{DatumAsked}
-use Rattle.records.specs.declared.MasksAsked.{MasksAsked}
-use Rattle.records.specs.declared.PortAsked.{PortAsked}
-use Rattle.records.specs.declared.Sentence.{Sentence}
-use Rattle.records.specs.declared.Sentence.the-variants as S
-use Rattle.records.specs.Blank.{aloneOf}
-use Rattle.reading.specs.Lines.{readLine}
+use Rattle.kind_pir_datum.specs.declared.command.DatumAsked.{DatumAsked}
+use Rattle.kind_pir_masks.specs.declared.command.MasksAsked.{MasksAsked}
+use Rattle.kind_pir_port.specs.declared.command.PortAsked.{PortAsked}
+use Rattle.sentence.specs.Sentence.{Sentence}
+use Rattle.sentence.specs.Sentence as S
+use Rattle.sentence.specs.Lines.{readLine}
 use Rattle.frame.specs.declared.Written.{Written}
 use Rattle.digits.specs.Pick.{pick}
 use Rattle.frame.specs.Written.{Writes, writtenOf}
@@ -44,24 +43,24 @@ module _ {s after : Settings} {fault : Written} {body out : List ℕ} {d : Done}
 -- Each reply carries the values after the command, and reads back as the record of those values.
 module _ (s : Settings) (p : ℕ) {out : List ℕ} {d : Done} {left : List ℕ} where
   pub port-reply : (r : PortAsked) → Does s (sentenceOutcome s p (S.Pr r)) out d left → d .written .no ≡ 0
-      → readLine (take (d .written .length) left) ≡ aloneOf (S.Pa (portTold (d .settings) (namedPort p r)))
+      → readLine (take (d .written .length) left) ≡ S.Pa (portTold (d .settings) (namedPort p r))
   port-reply r w h =
       Writing.pirpa-back (portTold (afterPort s p r) (namedPort p r)) (writes w) h
-      ∙ ap (λ (x : Settings). aloneOf (S.Pa (portTold x (namedPort p r)))) (sym (settings-are w h))
+      ∙ ap (λ (x : Settings). S.Pa (portTold x (namedPort p r))) (sym (settings-are w h))
 
   pub datum-reply : (r : DatumAsked) → Does s (sentenceOutcome s p (S.Tr r)) out d left → d .written .no ≡ 0
-      → readLine (take (d .written .length) left) ≡ aloneOf (S.Ta (datumTold (d .settings)))
-  datum-reply r w h = Writing.pirta-back (datumTold (afterDatum s r)) (writes w) h ∙ ap (λ (x : Settings). aloneOf (S.Ta (datumTold x)))
+      → readLine (take (d .written .length) left) ≡ S.Ta (datumTold (d .settings))
+  datum-reply r w h = Writing.pirta-back (datumTold (afterDatum s r)) (writes w) h ∙ ap (λ (x : Settings). S.Ta (datumTold x))
       (sym (settings-are w h))
 
   pub masks-reply : (r : MasksAsked) → Does s (sentenceOutcome s p (S.Sr r)) out d left → d .written .no ≡ 0
-      → readLine (take (d .written .length) left) ≡ aloneOf (S.Sa (masksTold (d .settings)))
-  masks-reply r w h = Writing.pirsa-back (masksTold (afterMasks s r)) (writes w) h ∙ ap (λ (x : Settings). aloneOf (S.Sa (masksTold x)))
+      → readLine (take (d .written .length) left) ≡ S.Sa (masksTold (d .settings))
+  masks-reply r w h = Writing.pirsa-back (masksTold (afterMasks s r)) (writes w) h ∙ ap (λ (x : Settings). S.Sa (masksTold x))
       (sym (settings-are w h))
 
   pub test-reply : Does s (sentenceOutcome s p S.Er) out d left → d .written .no ≡ 0
-      → readLine (take (d .written .length) left) ≡ aloneOf (S.Ea (codeTold (d .settings)))
-  test-reply w h = Writing.pirea-back (codeTold s) (writes w) h ∙ ap (λ (x : Settings). aloneOf (S.Ea (codeTold x)))
+      → readLine (take (d .written .length) left) ≡ S.Ea (codeTold (d .settings))
+  test-reply w h = Writing.pirea-back (codeTold s) (writes w) h ∙ ap (λ (x : Settings). S.Ea (codeTold x))
       (sym (settings-are w h))
 
 -- The settings in range, part by part.
@@ -215,8 +214,8 @@ sentence-in s p S.Er room g = kept-in s s _ _ room g (λ h. g)
 sentence-in s p (S.Refused n f) room g = g
 sentence-in s p (S.Gga t r) room g = g
 sentence-in s p (S.Gll t r) room g = g
-sentence-in s p (S.Gsa t) room g = g
-sentence-in s p (S.Gsv t) room g = g
+sentence-in s p (S.Gsa t r) room g = g
+sentence-in s p (S.Gsv t r) room g = g
 sentence-in s p (S.Rmc t r) room g = g
 sentence-in s p (S.Vtg t r) room g = g
 sentence-in s p (S.Zda t r) room g = g
@@ -230,8 +229,8 @@ unfolding outcomeOf
 outcome-in s p l room g = go (ltb p 2 && settingsGood s) (eqb (portOf s p .protocol) 4)
   where
     go : (a b : Bool)
-        → InRange (settingsAfter s (pick a (pick b (sentenceOutcome s p (readLine l .sentence)) (refuses 10 1 0)) (refuses 5 0 0)) room)
-    go true true = sentence-in s p (readLine l .sentence) room g
+        → InRange (settingsAfter s (pick a (pick b (sentenceOutcome s p (readLine l)) (refuses 10 1 0)) (refuses 5 0 0)) room)
+    go true true = sentence-in s p (readLine l) room g
     go true false = g
     go false b = g
 

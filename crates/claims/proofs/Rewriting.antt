@@ -27,13 +27,9 @@ use Rattle.fields.specs.Fields.{fieldsOf, joinFields, onto}
 use Rattle.fields.specs.Places.{theFields}
 use Rattle.fields.proofs.Joining.{join-fields, joinAll}
 use Rattle.fields.proofs.Splitting.{First, first-field}
-use Rattle.records.specs.declared.Gsa.{Gsa}
-use Rattle.records.specs.declared.Gsv.{Gsv}
-use Rattle.records.specs.declared.Reading.{Reading}
-use Rattle.records.specs.declared.Sentence.{Sentence}
-use Rattle.records.specs.declared.Sentence.the-variants as S
-use Rattle.records.specs.Blank.{aloneOf}
-use Rattle.reading.specs.Lines.{addressed, makerOf, readBody, readLine, standardOf}
+use Rattle.sentence.specs.Sentence.{Sentence}
+use Rattle.sentence.specs.Sentence as S
+use Rattle.sentence.specs.Lines.{addressed, makerOf, readBody, readLine, standardOf}
 use Rattle.frame.specs.Body.{talkerText}
 use Rattle.frame.specs.Written.{wrote}
 use Rattle.frame.proofs.Sealing.{line-length}
@@ -66,26 +62,23 @@ use native.Mathlib.Nat.{zero-add}
 abbrev pub Fits : List ℕ → Type 0
 Fits body = length (asLine body) ≤ 82
 
-abbrev pub Writable : Sentence → Gsa → Gsv → Type 0
-Writable (S.Gga t r) a v = (ggaWrong r ≡ 0) × Fits (ggaBody t r)
-Writable (S.Gll t r) a v = (gllWrong r ≡ 0) × Fits (gllBody t r)
-Writable (S.Rmc t r) a v = (rmcWrong r ≡ 0) × Fits (rmcBody t r)
-Writable (S.Vtg t r) a v = (vtgWrong r ≡ 0) × Fits (vtgBody t r)
-Writable (S.Zda t r) a v = (zdaWrong r ≡ 0) × Fits (zdaBody t r)
-Writable (S.Gsa t) a v = (gsaWrong a ≡ 0) × Fits (gsaBody t a)
-Writable (S.Gsv t) a v = (gsvFault v ≡ wrote 0) × Fits (gsvBody t v)
-Writable (S.Pr r) a v = (pirprWrong r ≡ 0) × Fits (pirprBody r)
-Writable (S.Tr r) a v = (pirtrWrong r ≡ 0) × Fits (pirtrBody r)
-Writable (S.Sr r) a v = (pirsrWrong r ≡ 0) × Fits (pirsrBody r)
-Writable (S.Pa r) a v = (pirpaWrong r ≡ 0) × Fits (pirpaBody r)
-Writable (S.Ta r) a v = (pirtaWrong r ≡ 0) × Fits (pirtaBody r)
-Writable (S.Sa r) a v = (pirsaWrong r ≡ 0) × Fits (pirsaBody r)
-Writable (S.Ea r) a v = (pireaWrong r ≡ 0) × Fits (pireaBody r)
-Writable S.Er a v = Fits pirerBody
-Writable (S.Refused n f) a v = Unit {0}
-
-abbrev pub CanBeWritten : Reading → Type 0
-CanBeWritten r = Writable (r .sentence) (r .gsa) (r .gsv)
+abbrev pub CanBeWritten : Sentence → Type 0
+CanBeWritten (S.Gga t r) = (ggaWrong r ≡ 0) × Fits (ggaBody t r)
+CanBeWritten (S.Gll t r) = (gllWrong r ≡ 0) × Fits (gllBody t r)
+CanBeWritten (S.Rmc t r) = (rmcWrong r ≡ 0) × Fits (rmcBody t r)
+CanBeWritten (S.Vtg t r) = (vtgWrong r ≡ 0) × Fits (vtgBody t r)
+CanBeWritten (S.Zda t r) = (zdaWrong r ≡ 0) × Fits (zdaBody t r)
+CanBeWritten (S.Gsa t r) = (gsaWrong r ≡ 0) × Fits (gsaBody t r)
+CanBeWritten (S.Gsv t r) = (gsvFault r ≡ wrote 0) × Fits (gsvBody t r)
+CanBeWritten (S.Pr r) = (pirprWrong r ≡ 0) × Fits (pirprBody r)
+CanBeWritten (S.Tr r) = (pirtrWrong r ≡ 0) × Fits (pirtrBody r)
+CanBeWritten (S.Sr r) = (pirsrWrong r ≡ 0) × Fits (pirsrBody r)
+CanBeWritten (S.Pa r) = (pirpaWrong r ≡ 0) × Fits (pirpaBody r)
+CanBeWritten (S.Ta r) = (pirtaWrong r ≡ 0) × Fits (pirtaBody r)
+CanBeWritten (S.Sa r) = (pirsaWrong r ≡ 0) × Fits (pirsaBody r)
+CanBeWritten (S.Ea r) = (pireaWrong r ≡ 0) × Fits (pireaBody r)
+CanBeWritten S.Er = Fits pirerBody
+CanBeWritten (S.Refused n f) = Unit {0}
 
 fits : (body : List ℕ) → length body ≤ 76 → Fits body
 fits body h = omega (arith, line-length body, h)
@@ -160,7 +153,7 @@ module _ (body : List ℕ) (room : length body ≤ 76) where
   standard-written : (t : Talker) (k : Kind) → addressOf body ≡ Standard t k
       → CanBeWritten (standardOf t k (length (fieldsOf body) - 1) (theFields body))
   standard-written t K.Gga a =
-      N.gga .write-read t (length (fieldsOf body) - 1) (theFields body) (λ (x : Sentence). CanBeWritten (aloneOf x)) (λ n f. tt)
+      N.gga .write-read t (length (fieldsOf body) - 1) (theFields body) CanBeWritten (λ n f. tt)
       (λ r c w u. (
         w,
         fits (ggaBody t r) (omega (
@@ -171,7 +164,7 @@ module _ (body : List ℕ) (room : length body ≤ 76) where
         )),
       ))
   standard-written t K.Rmc a =
-      N.rmc .write-read t (length (fieldsOf body) - 1) (theFields body) (λ (x : Sentence). CanBeWritten (aloneOf x)) (λ n f. tt)
+      N.rmc .write-read t (length (fieldsOf body) - 1) (theFields body) CanBeWritten (λ n f. tt)
       (λ r c w u. (
         w,
         fits (rmcBody t r) (omega (
@@ -182,16 +175,16 @@ module _ (body : List ℕ) (room : length body ≤ 76) where
         )),
       ))
   standard-written t K.Gll a =
-      N.gll .write-read t (length (fieldsOf body) - 1) (theFields body) (λ (x : Sentence). CanBeWritten (aloneOf x)) (λ n f. tt)
+      N.gll .write-read t (length (fieldsOf body) - 1) (theFields body) CanBeWritten (λ n f. tt)
       (λ r c w u. (w, fits (gllBody t r) (N.gll-fits t r w)))
   standard-written t K.Vtg a =
-      N.vtg .write-read t (length (fieldsOf body) - 1) (theFields body) (λ (x : Sentence). CanBeWritten (aloneOf x)) (λ n f. tt)
+      N.vtg .write-read t (length (fieldsOf body) - 1) (theFields body) CanBeWritten (λ n f. tt)
       (λ r c w u. (w, fits (vtgBody t r) (N.vtg-fits t r w)))
   standard-written t K.Zda a =
-      N.zda .write-read t (length (fieldsOf body) - 1) (theFields body) (λ (x : Sentence). CanBeWritten (aloneOf x)) (λ n f. tt)
+      N.zda .write-read t (length (fieldsOf body) - 1) (theFields body) CanBeWritten (λ n f. tt)
       (λ r c w u. (w, fits (zdaBody t r) (N.zda-fits t r w)))
   standard-written t K.Gsa a =
-      TGsa.write-read t (length (fieldsOf body) - 1) (theFields body) (λ (x : Reading). CanBeWritten x) (λ n f. tt)
+      TGsa.write-read t (length (fieldsOf body) - 1) (theFields body) CanBeWritten (λ n f. tt)
       (λ r e c w u. (
         w,
         fits (gsaBody t r) (omega (
@@ -202,25 +195,25 @@ module _ (body : List ℕ) (room : length body ≤ 76) where
         )),
       ))
   standard-written t K.Gsv a =
-      TGsv.write-read t (theFields body) (λ (x : Reading). CanBeWritten x) (λ n f. tt)
+      TGsv.write-read t (theFields body) CanBeWritten (λ n f. tt)
       (λ r e g. (fault-none r g, fits (gsvBody t r) (TGsv.fits t r))) (length (fieldsOf body) - 1)
 
   maker-written : (k : Pir) → CanBeWritten (makerOf k (length (fieldsOf body) - 1) (theFields body))
-  maker-written P.Pr = C.pirpr .write-read (length (fieldsOf body) - 1) (theFields body) (λ (x : Sentence). CanBeWritten (aloneOf x))
+  maker-written P.Pr = C.pirpr .write-read (length (fieldsOf body) - 1) (theFields body) CanBeWritten
       (λ n f. tt) (λ r c w. (w, fits (pirprBody r) (C.pirpr .fits r w)))
-  maker-written P.Tr = C.pirtr .write-read (length (fieldsOf body) - 1) (theFields body) (λ (x : Sentence). CanBeWritten (aloneOf x))
+  maker-written P.Tr = C.pirtr .write-read (length (fieldsOf body) - 1) (theFields body) CanBeWritten
       (λ n f. tt) (λ r c w. (w, fits (pirtrBody r) (C.pirtr .fits r w)))
-  maker-written P.Sr = C.pirsr .write-read (length (fieldsOf body) - 1) (theFields body) (λ (x : Sentence). CanBeWritten (aloneOf x))
+  maker-written P.Sr = C.pirsr .write-read (length (fieldsOf body) - 1) (theFields body) CanBeWritten
       (λ n f. tt) (λ r c w. (w, fits (pirsrBody r) (C.pirsr .fits r w)))
-  maker-written P.Pa = C.pirpa .write-read (length (fieldsOf body) - 1) (theFields body) (λ (x : Sentence). CanBeWritten (aloneOf x))
+  maker-written P.Pa = C.pirpa .write-read (length (fieldsOf body) - 1) (theFields body) CanBeWritten
       (λ n f. tt) (λ r c w. (w, fits (pirpaBody r) (C.pirpa .fits r w)))
-  maker-written P.Ta = C.pirta .write-read (length (fieldsOf body) - 1) (theFields body) (λ (x : Sentence). CanBeWritten (aloneOf x))
+  maker-written P.Ta = C.pirta .write-read (length (fieldsOf body) - 1) (theFields body) CanBeWritten
       (λ n f. tt) (λ r c w. (w, fits (pirtaBody r) (C.pirta .fits r w)))
-  maker-written P.Sa = C.pirsa .write-read (length (fieldsOf body) - 1) (theFields body) (λ (x : Sentence). CanBeWritten (aloneOf x))
+  maker-written P.Sa = C.pirsa .write-read (length (fieldsOf body) - 1) (theFields body) CanBeWritten
       (λ n f. tt) (λ r c w. (w, fits (pirsaBody r) (C.pirsa .fits r w)))
-  maker-written P.Ea = C.pirea .write-read (length (fieldsOf body) - 1) (theFields body) (λ (x : Sentence). CanBeWritten (aloneOf x))
+  maker-written P.Ea = C.pirea .write-read (length (fieldsOf body) - 1) (theFields body) CanBeWritten
       (λ n f. tt) (λ r c w. (w, fits (pireaBody r) (C.pirea .fits r w)))
-  maker-written P.Er = C.pirer .write-read (length (fieldsOf body) - 1) (theFields body) (λ (x : Sentence). CanBeWritten (aloneOf x))
+  maker-written P.Er = C.pirer .write-read (length (fieldsOf body) - 1) (theFields body) CanBeWritten
       (λ n f. tt) (λ v c w. fits pirerBody (C.pirer .fits tt w))
 
   addressed-written : (a : Address) → addressOf body ≡ a → CanBeWritten (addressed a (length (fieldsOf body) - 1) (theFields body))
@@ -237,6 +230,6 @@ pub read-can-be-written : (l : List ℕ) → CanBeWritten (readLine l)
 unfolding readLine
 read-can-be-written l = go (eqb (lineRefusal l) 0) refl
   where
-    go : (b : Bool) → eqb (lineRefusal l) 0 ≡ b → CanBeWritten (pick b (readBody (bodyOf l)) (aloneOf (S.Refused (lineRefusal l) 0)))
+    go : (b : Bool) → eqb (lineRefusal l) 0 ≡ b → CanBeWritten (pick b (readBody (bodyOf l)) (S.Refused (lineRefusal l) 0))
     go true q = body-written (bodyOf l) (accepted l (eqb-true (lineRefusal l) 0 q) .0 .room)
     go false q = tt

@@ -38,8 +38,8 @@ use Rattle.receiver.specs.Settings.{atStart, portGood, settingsGood}
 use Rattle.receiver.specs.Command.{Outcome, outcomeOf, refuses, replies, settingsAfter}
 use Rattle.form.specs.Kind.{answerBy, faultBy, fieldsFor, readBy}
 use Rattle.form.specs.Wrong.{firstWrong, nearOf}
-use Rattle.kind_gsv.specs.Row.{entriesOf, entryAt, entryFrom, firstOf, gsvOf, gsvRow, gsvWith}
-use Rattle.reading.specs.Lines.{readBody, readLine}
+use Rattle.kind_gsv.specs.Row.{entriesOf, entryAt, entryFrom, firstOf, gsvRow, gsvWith}
+use Rattle.sentence.specs.Lines.{readBody, readLine}
 use Rattle.sky.specs.Group.{Answer, ended, entriesAt, follows, groupOf, gsvRule, inPlace, linesFor, numbered, refused, repeats, rule}
 use Rattle.sky.specs.Group.{sameTalker, whole}
 use Rattle.index_sevens.specs.Sevens.{groups, sevens, takeGroups, takeSevens}
@@ -158,7 +158,7 @@ pub rows-hold : AllHold rows
 unfolding rows same hexDigit hexOf noneOf bodyByte bodyBytes xorFrom xorOf endForm lineForm endGives lineRefusal isDigit digitsFrom
     digitsOf withinOf joinedOf angleOf latitudeOf longitudeOf letteredOf sidedOf pairAt leapYear daysIn isDate dateAt fullYear dateSix
     minus bareOf zoneOf zoneAt zoneTwo bind lookUp knownOf commaFree addressOf onto fieldsOf fixedOf maybeOf before cutRest cutLines
-    readFrom readLines readBy answerBy faultBy fieldsFor nearOf firstWrong firstOf entryAt entryFrom entriesOf gsvRow gsvWith gsvOf
+    readFrom readLines readBy answerBy faultBy fieldsFor nearOf firstWrong firstOf entryAt entryFrom entriesOf gsvRow gsvWith
     readBody readLine linesFor entriesAt sameTalker inPlace follows numbered repeats gsvRule rule ended groupOf joinFields hexFrom
     hexDigitsOf printHex satellitesOf satellitesForm isPortMask emptyWrong outside rangeWrong signedWrong portWrong pirsrRow pirsaRow
     portGood settingsGood outcomeOf hexValue ones onesIn commanded groups sevens takeGroups takeSevens fits lengthOf skipOf entryOf

@@ -18,11 +18,17 @@ use Rattle.form.proofs.Laws.{near-zero}
 use Rattle.kind_gga.specs.Row.{ggaRow, ggaWrong}
 use Rattle.frame.specs.Written.{refused, writtenOf}
 use Rattle.frame.proofs.Sealing.{fault-out}
-use Rattle.slots.specs.Slots.{isMark, isThere, isWhole, most, wholeOf}
-use Rattle.slots.specs.Layout.{_then_, Layout, marked, maybeLayout, numberAt, placeLayout, signed, signedLayout, whole}
-use Rattle.tonumbers.specs.Layout.{ggaLayout, pirsaLayout, pirsrLayout}
-use Rattle.fromnumbers.specs.Back.{addressAt, ggaAt, knownOf, recordAt}
-use Rattle.hostrecords.specs.FromHost.{gpsOver, numbersFault, recordBody, writtenAs}
+use Rattle.numbers.specs.Numbers.{isMark, isThere, isWhole, most, wholeOf}
+use Rattle.numbers.specs.Layout.{_then_, Layout, marked, numberAt, signed, whole}
+use Rattle.form.specs.Numbers.{maybeLayout}
+use Rattle.form_position.specs.Numbers.{placeLayout}
+use Rattle.form_number.specs.Numbers.{signedLayout}
+use Rattle.kind_gga.specs.Row.{ggaLayout}
+use Rattle.kind_pir_masks.specs.Reply.{pirsaLayout, pirsaRow}
+use Rattle.kind_pir_masks.specs.Command.{pirsrLayout, pirsrRow}
+use Rattle.sentence.specs.Back.{addressAt, knownOf, recordAt}
+use Rattle.kind_gga.specs.Row.{ggaAt}
+use Rattle.sentence.specs.FromHost.{gpsOver, numbersFault, recordBody, writtenAs}
 
 -- One is no mark's: a value behind any other number is missing.
 there-mark : (z : ℤ) → isMark z ≡ false → isThere z ≡ false
@@ -125,9 +131,9 @@ gps-refused kind n out e =
 
 pub gps-asked : (n : List ℤ) (out : List ℕ) → 4 ≤ length n → isThere (numberAt n 0) ≡ true → isWhole (numberAt n 1) ≡ false
     → writtenAs 10 n out ≡ refused 5 1 1
-unfolding gpsOver addressAt knownOf pirsrLayout
+unfolding gpsOver addressAt knownOf pirsrLayout pirsrRow
 gps-asked n out h t w = gps-refused 10 n out (rw (le-leb 4 (length n) h, t, w))
 
 pub gps-told : (n : List ℤ) (out : List ℕ) → 2 ≤ length n → isWhole (numberAt n 0) ≡ false → writtenAs 14 n out ≡ refused 5 1 1
-unfolding gpsOver addressAt knownOf pirsaLayout
+unfolding gpsOver addressAt knownOf pirsaLayout pirsaRow
 gps-told n out h w = gps-refused 14 n out (rw (le-leb 2 (length n) h, w))

@@ -1,10 +1,10 @@
 // The commands of the program exhibits that show what an index says.
 use exhibits_walks::entries::Step;
 use exhibits_walks::lines::There;
-use hostrecords::Told;
 use index::Entry;
 use libc::STDERR_FILENO;
 use libc::STDOUT_FILENO;
+use numbers::Told;
 
 // What the index says of an exhibit; where it says nothing, that is said.
 enum Known {
@@ -67,7 +67,7 @@ fn put_fields(out: &mut [u8], kind: u32, numbers: &[i64]) -> usize {
 
 // Reads a line to the numbers of its record.
 fn read(line: &[u8], numbers: &mut [i64]) -> Told {
-    hostrecords::read(line, numbers)
+    sentence::read(line, numbers)
 }
 
 // Writes the fields of a line in words, or says why the reader refuses it.

@@ -17,6 +17,7 @@ use Rattle.form.proofs.Clean.{clean-all-append, CleanAll}
 use Rattle.form.proofs.CleanTexts.{field-unit, long-unit, total, total-append}
 use Rattle.form.proofs.Ranged.{unit-short}
 use Rattle.form.proofs.Values.{unit-back}
+use Rattle.numbers.specs.Layout.{Layout, nothing}
 
 -- The bytes of w fields after the first n, each with its comma.
 abbrev pub bytes : (ℕ → List ℕ) → ℕ → ℕ → ℕ
@@ -118,8 +119,8 @@ bytes-both field n (suc a) b =
     ap (bytes field n) s ∙ omega (arith, i)
 
 -- A form of one field, by what the field reads as.
-abbrev pub ofOne : {G X : Type 0} → ℕ → (List ℕ → G) → (G → ℕ) → (G → X) → (X → ℕ) → (X → List ℕ) → Form G X
-ofOne most read wrong value fault text =
+abbrev pub ofOne : {G X : Type 0} → ℕ → Layout X → (List ℕ → G) → (G → ℕ) → (G → X) → (X → ℕ) → (X → List ℕ) → Form G X
+ofOne most layout read wrong value fault text =
     record {
       width = 1;
       most = most;
@@ -128,6 +129,7 @@ ofOne most read wrong value fault text =
       value = value;
       fault = fault;
       text = λ v. text v ∷ [];
+      layout = layout;
     }
 
 -- A row of one form.
@@ -182,11 +184,11 @@ module _ {G X : Type 0} (none : G) (filled : X → ℕ) (f : Form G X) (good : f
       }
 
 -- One row, then another that depends on it.
-module _ {K G X H Y : Type 0} (w m : ℕ) (found : G → K) (held : X → K) (a : Row G X) (b : K → Row H Y)
+module _ {K G X H Y : Type 0} (w m : ℕ) (y : Layout Y) (found : G → K) (held : X → K) (a : Row G X) (b : K → Row H Y)
     (wide : (k : K) → b k .width ≡ w) (large : (k : K) → b k .most ≤ m) (same : (g : G) → held (a .value g) ≡ found g)
     (p : Lawful a) (q : (k : K) → Lawful (b k)) where
   abbrev both : Row (G × H) (X × Y)
-  both = depending w m found held a b
+  both = depending w m y found held a b
 
   parts : (v : X × Y) → both .fault v 0 0 ≡ 0 → (a .fault (v .0) 0 0 ≡ 0) × (b (held (v .0)) .fault (v .1) 0 0 ≡ 0)
   parts v e =
@@ -319,27 +321,27 @@ module _ {G X : Type 0} (letter : ℕ) (found : G → Bool) (held : X → Bool) 
 
   pub lawful-measured : Lawful a → Lawful (measured letter found held a)
   lawful-measured p =
-      lawful-made (λ v. v .0) (λ v. (v, tt)) (depending 1 2 found held a unitFor) (λ v. refl) (λ v. refl)
-      (lawful-depending 1 2 found held a unitFor (λ k. refl) (λ k. lit≤ tt) same p lawful-for)
+      lawful-made (λ v. v .0) (λ v. (v, tt)) (depending 1 2 nothing found held a unitFor) (λ v. refl) (λ v. refl)
+      (lawful-depending 1 2 nothing found held a unitFor (λ k. refl) (λ k. lit≤ tt) same p lawful-for)
 
   pub tight-measured : Tight a → Tight (measured letter found held a)
   tight-measured p = (
     lawful-measured (p .0),
-    short-made (λ v. v .0) (λ v. (v, tt)) (depending 1 2 found held a unitFor) (λ v. refl) (λ v. refl)
-        (short-depending 1 2 found held a unitFor (λ k. refl) (λ k. lit≤ tt) same (p .0) lawful-for (p .1) (short-unit letter)),
+    short-made (λ v. v .0) (λ v. (v, tt)) (depending 1 2 nothing found held a unitFor) (λ v. refl) (λ v. refl)
+        (short-depending 1 2 nothing found held a unitFor (λ k. refl) (λ k. lit≤ tt) same (p .0) lawful-for (p .1) (short-unit letter)),
   )
 
 -- Lawful rows, written like the rows themselves; and with the law of lengths.
 infixr 30 _⊳_
 pub _⊳_ : {G X H Y : Type 0} {a : Row G X} {b : Row H Y} → Lawful a → Lawful b → Lawful (a ▷ b)
 _⊳_ {a = a} {b = b} p q =
-    lawful-depending {K = Unit {0}} (b .width) (b .most) (λ g. tt) (λ v. tt) a (λ k. b) (λ k. refl) (λ k. omega arith) (λ g. refl)
+    lawful-depending {K = Unit {0}} (b .width) (b .most) (b .layout) (λ g. tt) (λ v. tt) a (λ k. b) (λ k. refl) (λ k. omega arith) (λ g. refl)
     p (λ k. q)
 
 infixr 30 _⊵_
 pub _⊵_ : {G X H Y : Type 0} {a : Row G X} {b : Row H Y} → Tight a → Tight b → Tight (a ▷ b)
 _⊵_ {a = a} {b = b} p q = (
   p .0 ⊳ q .0,
-  short-depending {K = Unit {0}} (b .width) (b .most) (λ g. tt) (λ v. tt) a (λ k. b) (λ k. refl) (λ k. omega arith)
+  short-depending {K = Unit {0}} (b .width) (b .most) (b .layout) (λ g. tt) (λ v. tt) a (λ k. b) (λ k. refl) (λ k. omega arith)
       (λ g. refl) (p .0) (λ k. q .0) (p .1) (λ k. q .1),
 )

@@ -22,3 +22,5 @@ pub mod Texts
 pub mod UnitLaws
 pub mod Values
 pub mod Zeros
+pub mod Numbers
+pub mod Told

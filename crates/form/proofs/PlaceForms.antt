@@ -17,6 +17,7 @@ use Rattle.form.proofs.Clean.{Clean}
 use Rattle.form.proofs.Laws.{ofOne}
 use Rattle.form.proofs.PlaceLaws.{prefix-single, PrefixForm}
 use Rattle.form.proofs.Values.{empty-back}
+use Rattle.numbers.specs.Layout.{Layout}
 
 -- What one field reads as names no other field; an empty one reads where it may be empty.
 pub got-most : (o : Option ℕ) → gotOf o .wrong ≤ 1
@@ -49,17 +50,17 @@ unfolding maybeIntOf
 int-empty o = refl
 
 -- A field that may be empty; and one that may not, by a text and the value that it is read as.
-module _ {X : Type 0} {most : ℕ} {fault : X → ℕ} {text : X → List ℕ} where
+module _ {X : Type 0} {most : ℕ} {layout : Layout X} {fault : X → ℕ} {text : X → List ℕ} where
   pub prefix-maybe : (form : List ℕ → Option ℕ) {value : Got → X}
-      → PrefixForm (ofOne most (λ s. maybeOf s (form s)) (λ g. g .wrong) value fault text)
+      → PrefixForm (ofOne most layout (λ s. maybeOf s (form s)) (λ g. g .wrong) value fault text)
   prefix-maybe form = prefix-single (λ s. maybeOf s (form s)) (λ s. maybe-most s (form s)) [] tt (maybe-empty (form []))
 
   pub prefix-maybe-int : (form : List ℕ → Option ℤ) {value : GotInt → X}
-      → PrefixForm (ofOne most (λ s. maybeIntOf s (form s)) (λ g. g .wrong) value fault text)
+      → PrefixForm (ofOne most layout (λ s. maybeIntOf s (form s)) (λ g. g .wrong) value fault text)
   prefix-maybe-int form = prefix-single (λ s. maybeIntOf s (form s)) (λ s. int-most s (form s)) [] tt (int-empty (form []))
 
   pub prefix-told : (form : List ℕ → Option ℕ) {value : Got → X} (s : List ℕ) {v : ℕ} → Clean s → form s ≡ some v
-      → PrefixForm (ofOne most (λ t. gotOf (form t)) (λ g. g .wrong) value fault text)
+      → PrefixForm (ofOne most layout (λ t. gotOf (form t)) (λ g. g .wrong) value fault text)
   prefix-told form s c e = prefix-single (λ t. gotOf (form t)) (λ t. got-most (form t)) s c (ap (λ (o : Option ℕ). gotOf o .wrong) e)
 
 -- A field that stays empty.

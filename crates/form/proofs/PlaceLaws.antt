@@ -12,6 +12,7 @@ use Rattle.form.specs.Row.{Form, made, one, onlyIf, Row}
 use Rattle.form.specs.Wrong.{nearOf}
 use Rattle.form.proofs.Clean.{Clean}
 use Rattle.form.proofs.Laws.{ofOne}
+use Rattle.numbers.specs.Layout.{Layout}
 
 -- Fields that are the same in the first w of some places: of a form's own, `suc`; of those after the first n.
 abbrev pub Agree : (ℕ → List ℕ) → (ℕ → List ℕ) → (ℕ → ℕ) → ℕ → Type 0
@@ -101,11 +102,11 @@ prefix-narrow f wide own few s c good =
       fresh = λ field. anew (λ k. s) (λ j i. c) good;
     }
 
-pub prefix-single : {G X : Type 0} {most : ℕ} (read : List ℕ → G) {wrong : G → ℕ} {value : G → X} {fault : X → ℕ} {text : X → List ℕ}
+pub prefix-single : {G X : Type 0} {most : ℕ} {layout : Layout X} (read : List ℕ → G) {wrong : G → ℕ} {value : G → X} {fault : X → ℕ} {text : X → List ℕ}
     → ((s : List ℕ) → wrong (read s) ≤ 1) → (s : List ℕ) → Clean s → wrong (read s) ≡ 0
-    → PrefixForm (ofOne most read wrong value fault text)
-prefix-single {most = most} read {wrong} {value} {fault} {text} few s c good =
-    prefix-narrow (ofOne most read wrong value fault text) refl (λ field other e. ap read e) (λ field. few (field 1)) s c good
+    → PrefixForm (ofOne most layout read wrong value fault text)
+prefix-single {most = most} {layout = layout} read {wrong} {value} {fault} {text} few s c good =
+    prefix-narrow (ofOne most layout read wrong value fault text) refl (λ field other e. ap read e) (λ field. few (field 1)) s c good
 
 -- A form that stands only where it is on; else it has no field to name.
 pub prefix-onlyIf : {G X : Type 0} (none : G) (filled : X → ℕ) (f : Form G X) → f .wrong none ≡ 0 → PrefixForm f → (on : Bool)

@@ -16,6 +16,7 @@ use Rattle.form.specs.Values.{unitField}
 use Rattle.form.specs.Wrong.{nearOf}
 use Rattle.form.proofs.Clean.{Clean}
 use Rattle.form.proofs.Laws.{ofOne}
+use Rattle.numbers.specs.Layout.{Layout, nothing}
 use Rattle.form.proofs.PlaceLaws.{after, Agree, Completed, eased, namedAt, near-none, near-some, Prefix, prefix-made, prefix-one}
 use Rattle.form.proofs.PlaceLaws.{prefix-single, PrefixBut}
 use Rattle.form.proofs.UnitLaws.{unit-letter}
@@ -52,10 +53,10 @@ unfolding cut
 cut-high p x y j h = rw (lt-leb j p h)
 
 -- One row, then another that depends on it.
-module _ {K G X H Y : Type 0} (w m : ℕ) (found : G → K) (held : X → K) (a : Row G X) (b : K → Row H Y) (wide : (k : K) → b k .width ≡ w)
+module _ {K G X H Y : Type 0} (w m : ℕ) (y : Layout Y) (found : G → K) (held : X → K) (a : Row G X) (b : K → Row H Y) (wide : (k : K) → b k .width ≡ w)
     {early late : (ℕ → List ℕ) → ℕ → Type 0} (p : PrefixBut a early) (q : (k : K) → PrefixBut (b k) late) where
   abbrev both : Row (G × H) (X × Y)
-  both = depending w m found held a b
+  both = depending w m y found held a b
 
   -- The wrong field of each, by its own count, where the first reads as g.
   abbrev first : G → ℕ
@@ -243,11 +244,11 @@ infixr 30 _⊪_
 pub _⊪_ : {G X H Y : Type 0} {a : Row G X} {b : Row H Y} {early late : (ℕ → List ℕ) → ℕ → Type 0} → PrefixBut a early → PrefixBut b late
     → PrefixBut (a ▷ b) (λ field n. early field n × late field (n + a .width))
 _⊪_ {a = a} {b = b} p q =
-    prefix-depending-but {K = Unit {0}} (b .width) (b .most) (λ g. tt) (λ v. tt) a (λ k. b) (λ k. refl) p (λ k. q)
+    prefix-depending-but {K = Unit {0}} (b .width) (b .most) (b .layout) (λ g. tt) (λ v. tt) a (λ k. b) (λ k. refl) p (λ k. q)
 
-pub prefix-depending : {K G X H Y : Type 0} (w m : ℕ) (found : G → K) (held : X → K) (a : Row G X) (b : K → Row H Y)
-    → ((k : K) → b k .width ≡ w) → Prefix a → ((k : K) → Prefix (b k)) → Prefix (depending w m found held a b)
-prefix-depending w m found held a b wide p q = eased (λ field n u. (tt, tt)) (prefix-depending-but w m found held a b wide p q)
+pub prefix-depending : {K G X H Y : Type 0} (w m : ℕ) (y : Layout Y) (found : G → K) (held : X → K) (a : Row G X) (b : K → Row H Y)
+    → ((k : K) → b k .width ≡ w) → Prefix a → ((k : K) → Prefix (b k)) → Prefix (depending w m y found held a b)
+prefix-depending w m y found held a b wide p q = eased (λ field n u. (tt, tt)) (prefix-depending-but w m y found held a b wide p q)
 
 infixr 30 _⊩_
 pub _⊩_ : {G X H Y : Type 0} {a : Row G X} {b : Row H Y} → Prefix a → Prefix b → Prefix (a ▷ b)
@@ -263,7 +264,7 @@ unit-one u there b = go (same u (b ∷ []) || (not there && eqb (length u) 0))
     go false = lit≤ tt
 
 abbrev unitForm : ℕ → Bool → Form ℕ (Unit {0})
-unitForm letter there = ofOne 2 (λ u. unitWrong u there letter) (λ g. g) (λ g. tt) (λ v. 0) (λ v. unitField there letter)
+unitForm letter there = ofOne 2 nothing (λ u. unitWrong u there letter) (λ g. g) (λ g. tt) (λ v. 0) (λ v. unitField there letter)
 
 prefix-unit : (letter : ℕ) (there : Bool) → 44 < letter → letter < 92 → Prefix (unitAfter letter there)
 prefix-unit letter there low high =
@@ -275,5 +276,5 @@ prefix-unit letter there low high =
 pub prefix-measured : {G X : Type 0} (letter : ℕ) (found : G → Bool) (held : X → Bool) (a : Row G X) → 44 < letter → letter < 92
     → Prefix a → Prefix (measured letter found held a)
 prefix-measured letter found held a low high p =
-    prefix-made (λ v. v .0) (λ v. (v, tt)) (depending 1 2 found held a (unitAfter letter)) (λ v. refl)
-    (prefix-depending 1 2 found held a (unitAfter letter) (λ k. refl) p (λ k. prefix-unit letter k low high))
+    prefix-made (λ v. v .0) (λ v. (v, tt)) (depending 1 2 nothing found held a (unitAfter letter)) (λ v. refl)
+    (prefix-depending 1 2 nothing found held a (unitAfter letter) (λ k. refl) p (λ k. prefix-unit letter k low high))

@@ -12,6 +12,7 @@ use Rattle.form.specs.declared.got.GotInt.{GotInt}
 use Rattle.form.proofs.Clean.{Clean}
 use Rattle.form.proofs.PlaceLaws.{Agree, Completed, PrefixForm}
 use Rattle.form.proofs.PlaceSeveral.{empty, prefix-several, put-from, unread}
+use Rattle.numbers.specs.Layout.{Layout}
 
 -- What two fields read as: whether the value is there, and whether the first field is wrong.
 pub record Sided (g : GotInt) (there bad : Bool) : Type 0 where
@@ -20,8 +21,8 @@ pub record Sided (g : GotInt) (there bad : Bool) : Type 0 where
   pub most : g .wrong ≤ 2
 
 -- A form of two such fields, with a text that completes a first field that is read.
-abbrev ofTwo : {X : Type 0} → ℕ → (List ℕ → List ℕ → GotInt) → (GotInt → X) → (X → ℕ) → (X → List (List ℕ)) → Form GotInt X
-ofTwo most form value fault text =
+abbrev ofTwo : {X : Type 0} → ℕ → Layout X → (List ℕ → List ℕ → GotInt) → (GotInt → X) → (X → ℕ) → (X → List (List ℕ)) → Form GotInt X
+ofTwo most layout form value fault text =
     record {
       width = 2;
       most = most;
@@ -30,6 +31,7 @@ ofTwo most form value fault text =
       value = value;
       fault = fault;
       text = text;
+      layout = layout;
     }
 
 module _ (form : List ℕ → List ℕ → GotInt) (read : List ℕ → Option ℕ)
@@ -55,8 +57,8 @@ module _ (form : List ℕ → List ℕ → GotInt) (read : List ℕ → Option �
       put-from 2 (next (field 1) ∷ []) (clean (field 1), tt) (good (field 1) (sym (is (field 1) (field 2) .is-bad) ∙ b))
   two-mended field (suc (suc (suc k))) h i e u = let z : ⊥ = omega arith in absurd z
 
-  pub prefix-two : {X : Type 0} {most : ℕ} {value : GotInt → X} {fault : X → ℕ} {text : X → List (List ℕ)}
-      → PrefixForm (ofTwo most form value fault text)
-  prefix-two {most = most} {value} {fault} {text} =
-      prefix-several (ofTwo most form value fault text) (λ field other s. rw (s 0 (lit< tt), s 1 (lit< tt)))
+  pub prefix-two : {X : Type 0} {most : ℕ} {layout : Layout X} {value : GotInt → X} {fault : X → ℕ} {text : X → List (List ℕ)}
+      → PrefixForm (ofTwo most layout form value fault text)
+  prefix-two {most = most} {layout} {value} {fault} {text} =
+      prefix-several (ofTwo most layout form value fault text) (λ field other s. rw (s 0 (lit< tt), s 1 (lit< tt)))
       (λ field. is (field 1) (field 2) .most) two-decided two-mended (λ field. put-from 1 [] tt none-good)

@@ -2,6 +2,7 @@
 use Prim.Native.Nat.{ℕ}
 use mathlib.Core.Bool.{Bool, true}
 use mathlib.Core.List.{[], _∷_, List}
+use Rattle.numbers.specs.Layout.{Layout, nothing, whole}
 use Rattle.form.specs.Row.{Form}
 use Rattle.form.specs.Units.{emptyWrong}
 use Rattle.form.specs.Values.{alikeWrong, keptIf, neededWrong}
@@ -9,10 +10,10 @@ use Rattle.form.specs.declared.Maybe.{Maybe}
 use Rattle.form.specs.declared.got.Got.{Got}
 use Rattle.form.specs.declared.got.GotInt.{GotInt}
 
--- A form of one field: at most how many bytes with its comma, what the field reads as, its value, whether that is outside its range, and
--- its text.
-abbrev pub single : {X : Type 0} → ℕ → (List ℕ → Got) → (Got → X) → (X → ℕ) → (X → List ℕ) → Form Got X
-single most read value fault text =
+-- A form of one field: at most how many bytes with its comma, how its value stands in numbers, what the field reads as, its value, whether
+-- that is outside its range, and its text.
+abbrev pub single : {X : Type 0} → ℕ → Layout X → (List ℕ → Got) → (Got → X) → (X → ℕ) → (X → List ℕ) → Form Got X
+single most layout read value fault text =
     record {
       width = 1;
       most = most;
@@ -21,10 +22,11 @@ single most read value fault text =
       value = value;
       fault = fault;
       text = λ v. text v ∷ [];
+      layout = layout;
     }
 
-abbrev pub singleInt : {X : Type 0} → ℕ → (List ℕ → GotInt) → (GotInt → X) → (X → ℕ) → (X → List ℕ) → Form GotInt X
-singleInt most read value fault text =
+abbrev pub singleInt : {X : Type 0} → ℕ → Layout X → (List ℕ → GotInt) → (GotInt → X) → (X → ℕ) → (X → List ℕ) → Form GotInt X
+singleInt most layout read value fault text =
     record {
       width = 1;
       most = most;
@@ -33,6 +35,7 @@ singleInt most read value fault text =
       value = value;
       fault = fault;
       text = λ v. text v ∷ [];
+      layout = layout;
     }
 
 -- A value that stands exactly where another does; a line may have one too many, which is not kept.
@@ -46,6 +49,7 @@ needed f key =
       value = λ g. keptIf key g;
       fault = λ m. alikeWrong key (m .there) (f .fault m);
       text = f .text;
+      layout = f .layout;
     }
 
 -- A value that is never missing.
@@ -62,6 +66,7 @@ filled f =
       value = λ g. g .value;
       fault = λ v. f .fault (present v);
       text = λ v. f .text (present v);
+      layout = whole;
     }
 
 abbrev pub emptyField : Form ℕ (Unit {0})
@@ -74,4 +79,5 @@ emptyField =
       value = λ g. tt;
       fault = λ v. 0;
       text = λ v. [] ∷ [];
+      layout = nothing;
     }

@@ -5,3 +5,4 @@ pub mod Row
 pub mod Units
 pub mod Values
 pub mod Wrong
+pub mod Numbers

@@ -1,4 +1,5 @@
 // What every form of a field has: a reading, a value, a range and a text; and rows of forms, of which a kind of sentence is made.
+pub mod from_numbers;
 pub mod got;
 pub mod keep;
 pub mod range;

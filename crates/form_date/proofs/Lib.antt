@@ -7,3 +7,4 @@ pub mod PlaceZone
 pub mod Ranged
 pub mod Texts
 pub mod ZoneLaws
+pub mod Numbers

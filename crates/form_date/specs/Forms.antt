@@ -12,6 +12,8 @@ use Rattle.form_date.specs.Zone.{fourText, zoneFourForm, zoneMost, zoneT
 use Rattle.form_date.specs.declared.Date.{Date}
 use Rattle.form_date.specs.declared.Zone.{Zone}
 use Rattle.form_date.specs.declared.dates.GotDate.{GotDate}
+use Rattle.numbers.specs.Layout.{signed}
+use Rattle.form_date.specs.Numbers.{dateLayout, zoneLayout}
 
 -- A date in one field, which may be empty; and in three, all or none.
 abbrev pub ddmmyy : Form GotDate Date
@@ -24,6 +26,7 @@ ddmmyy =
       value = λ g. datedOf g;
       fault = λ d. sixWrong d;
       text = λ d. sixField d ∷ [];
+      layout = dateLayout;
     }
 
 abbrev pub dayMonthYear : Form GotDate Date
@@ -36,6 +39,7 @@ dayMonthYear =
       value = λ g. datedOf g;
       fault = λ d. threeWrong d;
       text = λ d. dayField d ∷ monthField d ∷ yearField d ∷ [];
+      layout = dateLayout;
     }
 
 -- A zone in two fields, both or none.
@@ -49,6 +53,7 @@ hoursMinutes =
       value = λ g. zonedOf g;
       fault = λ z. signedWrong zoneMost (z .there) (z .minutes);
       text = λ z. hoursField z ∷ minutesField z ∷ [];
+      layout = zoneLayout;
     }
 
 -- A zone in one field, that stands exactly where another value does, and that is never missing.
@@ -62,6 +67,7 @@ hhmm key =
       value = λ g. zonedIf key g;
       fault = λ z. alikeWrong key (z .there) (signedWrong zoneMost (z .there) (z .minutes));
       text = λ z. ifThere (z .there) (fourText (z .minutes)) ∷ [];
+      layout = zoneLayout;
     }
 
 abbrev pub filledZone : Form GotInt ℤ
@@ -74,4 +80,5 @@ filledZone =
       value = λ g. g .value;
       fault = λ z. signedWrong zoneMost true z;
       text = λ z. fourText z ∷ [];
+      layout = signed;
     }

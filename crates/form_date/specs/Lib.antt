@@ -3,3 +3,4 @@ pub mod Dates
 pub mod Forms
 pub mod Values
 pub mod Zone
+pub mod Numbers

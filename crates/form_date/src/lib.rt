@@ -1,5 +1,6 @@
 // Dates and time zones.
 pub mod dates;
+pub mod from_numbers;
 pub mod keep;
 pub mod range;
 pub mod split;

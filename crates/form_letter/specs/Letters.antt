@@ -10,6 +10,7 @@ use Rattle.form.specs.Forms.{single}
 use Rattle.form.specs.Got.{gotOf}
 use Rattle.form.specs.Row.{Form}
 use Rattle.form.specs.declared.got.Got.{Got}
+use Rattle.numbers.specs.Layout.{whole}
 
 -- The letters of a status, of a mode and of a selection.
 abbrev pub statuses : String
@@ -44,7 +45,7 @@ letterField v = (v % 256) ∷ []
 
 -- One letter of a set, never empty; the letters of a status and of a mode.
 abbrev pub letter : String → Form Got ℕ
-letter set = single 2 (letterForm (ascii set)) (λ g. g .value) (λ v. letterWrong (ascii set) v) (λ v. letterField v)
+letter set = single 2 whole (letterForm (ascii set)) (λ g. g .value) (λ v. letterWrong (ascii set) v) (λ v. letterField v)
 
 abbrev pub status : Form Got ℕ
 status = letter statuses

@@ -8,3 +8,4 @@ pub mod Ranged
 pub mod Same
 pub mod Texts
 pub mod Written
+pub mod Numbers

@@ -2,3 +2,4 @@ pub mod Fixed
 pub mod Forms
 pub mod Number
 pub mod Values
+pub mod Numbers

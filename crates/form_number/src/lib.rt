@@ -1,5 +1,6 @@
 // Numbers in thousandths, and digits of a fixed width; speeds in knots and in km/h are kept apart.
 pub mod fixed;
+pub mod from_numbers;
 pub mod keep;
 pub mod read;
 pub mod text;

@@ -8,3 +8,4 @@ pub mod PositionSides
 pub mod Ranged
 pub mod Splitting
 pub mod Texts
+pub mod Numbers

@@ -11,6 +11,8 @@ use Rattle.form_position.specs.Angle.{positionForm, variationForm}
 use Rattle.form_position.specs.Values.{ewField, latField, lonField, nsField, placedOf, placeWrong, variationField, variationSide}
 use Rattle.form_position.specs.declared.Place.{Place}
 use Rattle.form_position.specs.declared.Position.{Position}
+use Rattle.form_number.specs.Numbers.{signedLayout}
+use Rattle.form_position.specs.Numbers.{placeLayout}
 
 -- Latitude, N or S, longitude, E or W: all four or none.
 abbrev pub place : Form Position Place
@@ -23,6 +25,7 @@ place =
       value = λ g. placedOf g;
       fault = λ p. placeWrong p;
       text = λ p. latField p ∷ nsField p ∷ lonField p ∷ ewField p ∷ [];
+      layout = placeLayout;
     }
 
 -- A variation, below 180, and E or W: both or none.
@@ -36,4 +39,5 @@ variation =
       value = λ g. signedOf g;
       fault = λ z. signedWrong (halfCircle - 1) (z .there) (z .value);
       text = λ z. variationField z ∷ variationSide z ∷ [];
+      layout = signedLayout;
     }

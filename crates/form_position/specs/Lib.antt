@@ -1,3 +1,4 @@
 pub mod Angle
 pub mod Forms
 pub mod Values
+pub mod Numbers

@@ -1,4 +1,5 @@
 // Positions: latitude and longitude with their letters; and the magnetic variation.
+pub mod from_numbers;
 pub mod keep;
 pub mod range;
 pub mod read;

@@ -13,6 +13,7 @@ use Rattle.form.specs.Row.{Form}
 use Rattle.form.specs.Values.{keptOf, maybeText, rangeWrong}
 use Rattle.form.specs.declared.Maybe.{Maybe}
 use Rattle.form.specs.declared.got.Got.{Got}
+use Rattle.form.specs.Numbers.{maybeLayout}
 
 -- The last hundredth of a second of a day.
 abbrev pub lastHundredth : ℕ
@@ -46,4 +47,4 @@ timeForm f = maybeOf f (timeOf f)
 
 -- A time of day; may be empty.
 abbrev pub time : Form Got Maybe
-time = single 10 timeForm (λ g. keptOf g) (λ m. rangeWrong 0 lastHundredth (m .there) (m .value)) (maybeText clockText)
+time = single 10 maybeLayout timeForm (λ g. keptOf g) (λ m. rangeWrong 0 lastHundredth (m .there) (m .value)) (maybeText clockText)

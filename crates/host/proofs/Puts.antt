@@ -14,11 +14,11 @@ use Rattle.frame.specs.declared.Written.{Written}
 use Rattle.frame.specs.Written.{refused}
 use Rattle.sky.specs.declared.Table.{Table}
 use Rattle.sky.specs.Table.{WritesGroup}
-use Rattle.slots.specs.Slots.{laid, talkerNumber, talkerOf}
-use Rattle.slots.specs.Layout.{whole}
-use Rattle.slots.proofs.Fitting.{whole-back}
-use Rattle.slots.proofs.Laying.{laid-is}
-use Rattle.slots.proofs.Values.{talker-held}
+use Rattle.numbers.specs.Numbers.{laid, talkerNumber, talkerOf}
+use Rattle.numbers.specs.Layout.{standardNumbers, whole}
+use Rattle.numbers.proofs.Fitting.{whole-back}
+use Rattle.numbers.proofs.Laying.{laid-is}
+use Rattle.numbers.proofs.Values.{talker-held}
 use Rattle.skynumbers.specs.Numbers.{skyNumbers, tableAt, tableLayout}
 use Rattle.skynumbers.proofs.Laying.{sky-long}
 use Rattle.skynumbers.proofs.Back.{laid-back}
@@ -70,6 +70,7 @@ module _ (t : Talker) (r : Table) (full : length (r .entries) ≡ 36) (held : ta
     enough = rw stands (omega (arith, long, length-append (skyNumbers t r) (drop (length (skyNumbers t r)) numbers)))
 
     first : whole .at (laid (skyNumbers t r) numbers) 0 ≡ talkerNumber t
+    unfolding standardNumbers
     first = ap (λ (l : List ℤ). whole .at l 0) stands ∙ whole-back (talkerNumber t) (talker-held t)
 
     pub put-back : (out : List ℕ) → groupPut (laid (skyNumbers t r) numbers) out ≡ tablePut t r out

@@ -10,13 +10,13 @@ use lib.IntN.{ℤ}
 use lib.ListN.{length, replicate, length-append, length-replicate}
 use Rattle.address.specs.declared.Talker.{Talker}
 use Rattle.address.specs.declared.Talker.the-variants.{Gn}
-use Rattle.records.specs.Blank.{blankEntry}
+use Rattle.kind_gsv.specs.Blank.{blankEntry}
 use Rattle.sky.specs.declared.Sky.{Sky}
 use Rattle.sky.specs.declared.Whose.{Whose}
 use Rattle.sky.specs.declared.Whose.the-variants.{Nobody, Of}
 use Rattle.sky.specs.Group.{Answer, whole, refused}
 use Rattle.sky.specs.Sky.{skyOf}
-use Rattle.slots.specs.Slots.{laid}
+use Rattle.numbers.specs.Numbers.{laid}
 use Rattle.skynumbers.specs.Numbers.{skyNumbers}
 use Rattle.host.specs.Group.{handed}
 

@@ -12,7 +12,7 @@ use Rattle.receiver.specs.Command.{answerOf, Does, Outcome, outcomeOf, settings
 use Rattle.frame.specs.declared.Written.{Written}
 use Rattle.digits.specs.Pick.{pick}
 use Rattle.frame.specs.Written.{refused}
-use Rattle.slots.specs.Slots.{laid}
+use Rattle.numbers.specs.Numbers.{laid}
 use Rattle.settingnumbers.specs.Numbers.{said, settingNumbers, settingsAt}
 use Rattle.host.specs.Command.{carried, stepped}
 

@@ -12,7 +12,7 @@ use Rattle.receiver.specs.Settings.{countsOf}
 use Rattle.frame.specs.declared.Written.{Written}
 use Rattle.digits.specs.Pick.{pick}
 use Rattle.frame.specs.Written.{refused}
-use Rattle.slots.specs.Slots.{laid}
+use Rattle.numbers.specs.Numbers.{laid}
 use Rattle.settingnumbers.specs.Numbers.{said, settingNumbers, settingsAt}
 
 -- At start: 8 where there is no room for eleven numbers.

@@ -13,8 +13,8 @@ use Rattle.sky.specs.declared.Table.{Table}
 use Rattle.sky.specs.Group as G
 use Rattle.sky.specs.Sky.{tableOf}
 use Rattle.sky.specs.Table.{leftGroup, writtenGroup}
-use Rattle.slots.specs.Slots.{laid, talkerOf}
-use Rattle.slots.specs.Layout.{whole}
+use Rattle.numbers.specs.Numbers.{laid, talkerOf}
+use Rattle.numbers.specs.Layout.{whole}
 use Rattle.skynumbers.specs.Numbers.{skyNumbers, tableAt}
 
 -- What reading a group hands over: number, line and field of the refusal, and the numbers.

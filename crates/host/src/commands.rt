@@ -3,7 +3,7 @@ use frame::Written;
 use receiver::Counts;
 ghost use mathlib.Core.Path.{_≡_};
 ghost use Rattle.receiver.specs.Settings.{atStart};
-ghost use Rattle.slots.specs.Slots.{laid};
+ghost use Rattle.numbers.specs.Numbers.{laid};
 ghost use Rattle.settingnumbers.specs.Numbers.{settingNumbers};
 ghost use Rattle.host.specs.Command.{countsAt, startNo, stepped};
 

@@ -43,11 +43,11 @@ fn write_numbers(numbers: &[i64], out: &mut [u8]) -> Written
     if numbers.len() < 254 {
         return frame::refuse(5, 0, 0);
     }
-    let n = slots::whole_at(numbers, 0);
+    let n = numbers::whole_at(numbers, 0);
     if 4 < n {
         return frame::refuse(3, 0, 0);
     }
-    sky_write::write(out, slots::talker_of(n), skynumbers::table_at(numbers))
+    sky_write::write(out, numbers::talker_of(n), skynumbers::table_at(numbers))
 }
 
 // Writes the group that `numbers` say into `out`, and returns the number of its refusal, 0 where it was written.

@@ -9,7 +9,7 @@ ghost use Rattle.line.specs.Line.{lineRefusal};
 ghost use Rattle.finder.specs.Finder.{heldNext, endsHere};
 ghost use Rattle.finder.specs.Slice.{foundAt};
 ghost use Rattle.fields.specs.Places.{Placed};
-ghost use Rattle.reading.specs.Lines.{readLine, refusalOf};
+ghost use Rattle.sentence.specs.Lines.{readLine, refusalOf};
 
 // What the line rule says of `line`: 0 where it is a line, 1 where the rule fails, 2 where the two
 // digits differ from the XOR of the body.
@@ -64,12 +64,11 @@ pub extern "C" fn castanwel_places(body: &[u8], ends: &mut [usize]) -> usize
 // the field of the refusal, or to 0 where it has none.
 #[no_mangle]
 pub extern "C" fn castanwel_refusal(line: &[u8], field: &mut usize) -> u8
-    ensures { λ r. ⌜ r ≡ refusalOf (readLine (now (line .entry)) .sentence) .no ⌝ }
-    ensures { λ _. ⌜ now (field .exit) ≡ refusalOf (readLine (now (line .entry)) .sentence) .field ⌝ }
+    ensures { λ r. ⌜ r ≡ refusalOf (readLine (now (line .entry))) .no ⌝ }
+    ensures { λ _. ⌜ now (field .exit) ≡ refusalOf (readLine (now (line .entry))) .field ⌝ }
 {
-    let reading = reading::read_line(line);
-    let sentence = reading.sentence;
-    let refusal = reading::refusal_of(sentence);
-    *field = refusal.field;
-    refusal.no
+    let mut n = [0i64; 33];
+    let told = sentence::read(line, &mut n);
+    *field = told.field;
+    told.no
 }

@@ -1,8 +1,8 @@
 // Records read and written by a host, as numbers.
 ghost use mathlib.Core.Path.{_≡_};
-ghost use Rattle.reading.specs.Lines.{readLine};
-ghost use Rattle.hostrecords.specs.ToHost.{toldFor, laidFor};
-ghost use Rattle.hostrecords.specs.FromHost.{writtenAs, leftAs};
+ghost use Rattle.sentence.specs.Lines.{readLine};
+ghost use Rattle.sentence.specs.ToHost.{toldFor, laidFor};
+ghost use Rattle.sentence.specs.FromHost.{writtenAs, leftAs};
 
 // Reads `line` to its record, stores the record's numbers at the start of `numbers`, sets `kind` to its kind
 // and answers 0. Else `kind` is 0, `numbers` is left, and the answer is the refusal of the line with its
@@ -19,7 +19,7 @@ pub extern "C" fn castanwel_read(
     ensures { λ _. ⌜ now (field .exit) ≡ toldFor (readLine (now (line .entry))) (now (numbers .entry)) .field ⌝ }
     ensures { λ _. ⌜ now (numbers .exit) ≡ laidFor (readLine (now (line .entry))) (now (numbers .entry)) ⌝ }
 {
-    let told = hostrecords::read(line, numbers);
+    let told = sentence::read(line, numbers);
     *kind = told.kind;
     *field = told.field;
     told.no
@@ -44,7 +44,7 @@ pub extern "C" fn castanwel_write(
     ensures { λ _. ⌜ now (field .exit) ≡ writtenAs kind (now (numbers .entry)) (now (out .entry)) .field ⌝ }
     ensures { λ _. ⌜ now (out .exit) ≡ leftAs kind (now (numbers .entry)) (now (out .entry)) ⌝ }
 {
-    let written = hostrecords::write(kind, numbers, out);
+    let written = sentence::write(kind, numbers, out);
     *length = written.length;
     *line = written.line;
     *field = written.field;

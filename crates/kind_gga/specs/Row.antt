@@ -16,9 +16,10 @@ use Rattle.form_time.specs.Time.{time}
 use Rattle.form_position.specs.Forms.{place}
 use Rattle.form_position.specs.declared.Place.{Place}
 use Rattle.form_position.specs.declared.Position.{Position}
-use Rattle.records.specs.declared.Gga.{Gga}
-use Rattle.records.specs.declared.Sentence.{Sentence}
-use Rattle.records.specs.declared.Sentence.the-variants as S
+use Rattle.kind_gga.specs.declared.Gga.{Gga}
+use Rattle.numbers.specs.Layout.{Layout, standard, standardNumbers}
+use Rattle.numbers.specs.Told.{Answer, gives, refuses}
+use lib.IntN.{ℤ}
 
 -- The last station.
 abbrev pub stationMost : ℕ
@@ -54,13 +55,23 @@ ggaRow =
     (λ r. (r .time, (r .place, (r .quality, (r .satellites, (r .hdop, (r .altitude, (r .geoid, (r .age, r .station)))))))))
     ggaParts
 
--- What the contracts cite.
-abbrev pub ggaFrom : Talker → Got → Position → Got → Got → Got → GotInt → ℕ → GotInt → ℕ → Got → Got → Sentence
-ggaFrom t time place quality satellites hdop altitude m10 geoid m12 age station =
-    answerBy S.Refused ggaRow (S.Gga t) (time, (place, (quality, (satellites, (hdop, ((altitude, m10), ((geoid, m12), (age, station))))))))
+-- The record as numbers, as docs/LAYOUT.md lays them out, in the order of its fields; and back.
+unfoldable pub ggaLayout : Layout Gga
+ggaLayout = ggaRow .layout
 
-abbrev pub ggaOf : Talker → ℕ → (ℕ → List ℕ) → Sentence
-ggaOf t = readBy S.Refused ggaRow (S.Gga t)
+abbrev pub ggaNumbers : Talker → Gga → List ℤ
+ggaNumbers = standardNumbers ggaLayout
+
+abbrev pub ggaAt : List ℤ → Gga
+ggaAt n = standard ggaLayout .at n 0 .1
+
+-- What the contracts cite.
+abbrev pub ggaFrom : List ℤ → Talker → Got → Position → Got → Got → Got → GotInt → ℕ → GotInt → ℕ → Got → Got → Answer
+ggaFrom out t time place quality satellites hdop altitude m10 geoid m12 age station =
+    answerBy (refuses out) ggaRow (λ r. gives out 1 (ggaNumbers t r)) (time, (place, (quality, (satellites, (hdop, ((altitude, m10), ((geoid, m12), (age, station))))))))
+
+abbrev pub ggaTold : List ℤ → Talker → ℕ → (ℕ → List ℕ) → Answer
+ggaTold out t = readBy (refuses out) ggaRow (λ r. gives out 1 (ggaNumbers t r))
 
 -- The first value outside its range, by the number of its field, or 0; the fields; the body.
 abbrev pub ggaWrong : Gga → ℕ

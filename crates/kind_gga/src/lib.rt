@@ -1,19 +1,82 @@
 // GGA: time, position, quality, satellites, HDOP, altitude, geoid, age and station.
 use address::Talker;
+use form::Maybe;
 use form::got::Got;
 use form::got::GotInt;
+use form_number::Number;
+use form_number::Signed;
+use form_position::Place;
 use form_position::Position;
 use frame::Written;
-use records::Gga;
-use records::Sentence;
+use numbers::Told;
 ghost use mathlib.Core.Path.{_≡_};
 ghost use Rattle.put.specs.Wrote.{held, Puts, PutsFields};
 ghost use Rattle.fields.specs.Places.{fieldsBy};
 ghost use Rattle.frame.specs.Written.{faultAt, Writes};
-ghost use Rattle.kind_gga.specs.Row.{ggaBody, ggaFields, ggaFrom, ggaOf, ggaWrong};
+ghost use Rattle.numbers.specs.Told.{gives, Tells};
+ghost use Rattle.kind_gga.specs.Row.{ggaAt, ggaBody, ggaFields, ggaFrom, ggaNumbers, ggaTold, ggaWrong};
 
-// The record, or the first wrong field.
+pub struct Gga {
+    pub time: Maybe,
+    pub place: Place,
+    pub quality: u32,
+    pub satellites: Maybe,
+    pub hdop: Number,
+    pub altitude: Signed,
+    pub geoid: Signed,
+    pub age: Number,
+    pub station: Maybe,
+}
+
+// Lays the numbers of a record, in the order of docs/LAYOUT.md.
+fn lay(out: &mut [i64], t: Talker, r: Gga) -> Told
+    ensures { λ b. ⌜ Tells (gives (now (out .entry)) 1 (ggaNumbers t r)) b (now (out .exit)) ⌝ }
+{
+    let talker = numbers::talker_number(t);
+    let v = [
+        talker as i64,
+        r.time.there as i64,
+        r.time.value as i64,
+        r.place.there as i64,
+        r.place.lat as i64,
+        r.place.lon as i64,
+        r.quality as i64,
+        r.satellites.there as i64,
+        r.satellites.value as i64,
+        r.hdop.there as i64,
+        r.hdop.value as i64,
+        r.altitude.there as i64,
+        r.altitude.value as i64,
+        r.geoid.there as i64,
+        r.geoid.value as i64,
+        r.age.there as i64,
+        r.age.value as i64,
+        r.station.there as i64,
+        r.station.value as i64,
+    ];
+    numbers::tell(out, 1, &v)
+}
+
+// The record that numbers say; a number past the end is taken as 0.
+pub fn at(n: &[i64]) -> Gga
+    ensures { λ r. ⌜ r ≡ ggaAt (now (n .entry)) ⌝ }
+{
+    Gga {
+        time: form::from_numbers::maybe(n, 1),
+        place: form_position::from_numbers::place(n, 3),
+        quality: numbers::whole_at(n, 6),
+        satellites: form::from_numbers::maybe(n, 7),
+        hdop: form_number::from_numbers::number(n, 9),
+        altitude: form_number::from_numbers::signed(n, 11),
+        geoid: form_number::from_numbers::signed(n, 13),
+        age: form_number::from_numbers::number(n, 15),
+        station: form::from_numbers::maybe(n, 17),
+    }
+}
+
+// Lays the record, or refuses the first wrong field.
 fn gga_from(
+    out: &mut [i64],
     t: Talker,
     time: Got,
     place: Position,
@@ -26,8 +89,8 @@ fn gga_from(
     m12: u8,
     age: Got,
     station: Got,
-) -> Sentence
-    ensures { λ r. ⌜ r ≡ ggaFrom t time place quality satellites hdop altitude m10 geoid m12 age station ⌝ }
+) -> Told
+    ensures { λ r. ⌜ Tells (ggaFrom (now (out .entry)) t time place quality satellites hdop altitude m10 geoid m12 age station) r (now (out .exit)) ⌝ }
 {
     let w14 = form::keep::near(13, station.wrong, 0);
     let w13 = form::keep::near(12, age.wrong, w14);
@@ -41,9 +104,10 @@ fn gga_from(
     let w2 = form::keep::near(1, place.wrong, w6);
     let w1 = form::keep::near(0, time.wrong, w2);
     if w1 != 0 {
-        return Sentence::Refused(5, w1);
+        return numbers::refuse(5, w1);
     }
-    Sentence::Gga(
+    lay(
+        out,
         t,
         Gga {
             time: form::keep::kept(time),
@@ -59,15 +123,16 @@ fn gga_from(
     )
 }
 
-// The record of the fields of a body `s`, `n` of them after the address, by their ends `p`. Refused: 4
-// where there are not so many as the kind has, 5 at the first wrong field.
+// Reads the fields of a body `s`, `n` of them after the address, by their ends `p`, and lays the numbers of the record at
+// the start of `out`. Refused: 4 where there are not so many fields as the kind has, 5 at the first wrong field, 8 where
+// `out` is shorter than the record; then `out` is left.
 //
 //     $GPGGA,075140.00,5550.6111,N,03732.2534,E,1,05,1.2,188.8,M,14.4,M,,*62
-pub fn read(t: Talker, n: usize, s: &[u8], p: &[usize]) -> Sentence
-    ensures { λ r. ⌜ r ≡ ggaOf t n (fieldsBy (now (p .entry)) (now (s .entry))) ⌝ }
+pub fn read(out: &mut [i64], t: Talker, n: usize, s: &[u8], p: &[usize]) -> Told
+    ensures { λ r. ⌜ Tells (ggaTold (now (out .entry)) t n (fieldsBy (now (p .entry)) (now (s .entry)))) r (now (out .exit)) ⌝ }
 {
     if n != 14 {
-        return Sentence::Refused(4, 0);
+        return numbers::refuse(4, 0);
     }
     let time = form_time::read::time_in(s, p, 1);
     let place = form_position::read::position_in(s, p, 2, 3, 4, 5);
@@ -81,6 +146,7 @@ pub fn read(t: Talker, n: usize, s: &[u8], p: &[usize]) -> Sentence
     let age = form_number::read::number_in(s, p, 13);
     let station = form_number::fixed::fixed_in(s, p, 14, 4, 0, 1023);
     gga_from(
+        out,
         t,
         time,
         place,

@@ -12,9 +12,10 @@ use Rattle.form_time.specs.Time.{time}
 use Rattle.form_position.specs.Forms.{place}
 use Rattle.form_position.specs.declared.Place.{Place}
 use Rattle.form_position.specs.declared.Position.{Position}
-use Rattle.records.specs.declared.Gll.{Gll}
-use Rattle.records.specs.declared.Sentence.{Sentence}
-use Rattle.records.specs.declared.Sentence.the-variants as S
+use Rattle.kind_gll.specs.declared.Gll.{Gll}
+use Rattle.numbers.specs.Layout.{Layout, standard, standardNumbers}
+use Rattle.numbers.specs.Told.{Answer, gives, refuses}
+use lib.IntN.{ℤ}
 
 abbrev pub Readings : Type 0
 Readings = Position × (Got × (Got × Got))
@@ -32,13 +33,23 @@ gllRow =
     (λ r. (r .place, (r .time, (r .status, r .mode))))
     gllParts
 
--- What the contracts cite.
-abbrev pub gllFrom : Talker → Position → Got → Got → Got → Sentence
-gllFrom t place time status mode =
-    answerBy S.Refused gllRow (S.Gll t) (place, (time, (status, mode)))
+-- The record as numbers, as docs/LAYOUT.md lays them out, in the order of its fields; and back.
+unfoldable pub gllLayout : Layout Gll
+gllLayout = gllRow .layout
 
-abbrev pub gllOf : Talker → ℕ → (ℕ → List ℕ) → Sentence
-gllOf t = readBy S.Refused gllRow (S.Gll t)
+abbrev pub gllNumbers : Talker → Gll → List ℤ
+gllNumbers = standardNumbers gllLayout
+
+abbrev pub gllAt : List ℤ → Gll
+gllAt n = standard gllLayout .at n 0 .1
+
+-- What the contracts cite.
+abbrev pub gllFrom : List ℤ → Talker → Position → Got → Got → Got → Answer
+gllFrom out t place time status mode =
+    answerBy (refuses out) gllRow (λ r. gives out 2 (gllNumbers t r)) (place, (time, (status, mode)))
+
+abbrev pub gllTold : List ℤ → Talker → ℕ → (ℕ → List ℕ) → Answer
+gllTold out t = readBy (refuses out) gllRow (λ r. gives out 2 (gllNumbers t r))
 
 -- The first value outside its range, by the number of its field, or 0; the fields; the body.
 abbrev pub gllWrong : Gll → ℕ

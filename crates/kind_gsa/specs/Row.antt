@@ -2,7 +2,7 @@
 use Prim.Native.Nat.{ℕ}
 use mathlib.Core.List.{[], _∷_, List}
 use lib.Dec.{eqb}
-use lib.ListN.{getD}
+use lib.ListN.{getD, replicate}
 use Rattle.digits.specs.Pick.{pick}
 use Rattle.address.specs.declared.Talker.{Talker}
 use Rattle.frame.specs.Body.{standardBody}
@@ -15,13 +15,15 @@ use Rattle.form.specs.declared.got.Got.{Got}
 use Rattle.form_letter.specs.Letters.{letter, selections}
 use Rattle.form_number.specs.Fixed.{satelliteLeast, satelliteMost}
 use Rattle.form_number.specs.Forms.{exact, fixed, number}
-use Rattle.form_number.specs.Values.{numberOf}
+use Rattle.form_number.specs.Values.{noNumber, numberOf}
 use Rattle.form_number.specs.declared.Number.{Number}
-use Rattle.records.specs.Blank.{aloneOf, blankGsv}
-use Rattle.records.specs.declared.Gsa.{Gsa}
-use Rattle.records.specs.declared.Reading.{Reading}
-use Rattle.records.specs.declared.Sentence.the-variants as S
+use Rattle.kind_gsa.specs.declared.Gsa.{Gsa}
 use Rattle.kind_gsa.specs.declared.Twelve.{Twelve}
+use Rattle.numbers.specs.Layout.{Layout, _then_, several, shaped, standard, standardNumbers, whole}
+use Rattle.numbers.specs.Told.{Answer, gives, refuses}
+use Rattle.form.specs.Numbers.{maybeLayout}
+use Rattle.form_number.specs.Numbers.{numberLayout}
+use lib.IntN.{ℤ}
 
 -- A satellite, or none.
 abbrev pub satellite : Form Got Maybe
@@ -83,25 +85,43 @@ gsaMade v =
 abbrev pub gsaValues : Gsa → Values
 gsaValues r = (r .selection, (r .fix, (twelveIn (r .satellites), (r .pdop, (r .hdop, r .vdop)))))
 
--- A GSA answers a reading, with its record beside the sentence.
-abbrev pub refused : ℕ → ℕ → Reading
-refused number at = aloneOf (S.Refused number at)
+-- The record as numbers, as docs/LAYOUT.md lays them out, in the order of its fields; and back.
+unfoldable pub gsaLayout : Layout Gsa
+gsaLayout =
+    shaped
+    (λ v. record {
+      selection = v .0;
+      fix = v .1 .0;
+      satellites = v .1 .1 .0;
+      pdop = v .1 .1 .1 .0;
+      hdop = v .1 .1 .1 .1 .0;
+      vdop = v .1 .1 .1 .1 .1;
+    })
+    (λ r. (r .selection, (r .fix, (r .satellites, (r .pdop, (r .hdop, r .vdop))))))
+    (whole then whole then several 12 noMaybe maybeLayout then numberLayout then numberLayout then numberLayout)
 
-abbrev pub gsaBeside : Talker → Gsa → Reading
-gsaBeside t r = record { sentence = S.Gsa t; gsa = r; gsv = blankGsv }
+abbrev pub gsaNumbers : Talker → Gsa → List ℤ
+gsaNumbers = standardNumbers gsaLayout
 
-abbrev pub gsaOf : Talker → ℕ → (ℕ → List ℕ) → Reading
-gsaOf t = readBy refused gsaRow (λ v. gsaBeside t (gsaMade v))
+abbrev pub gsaAt : List ℤ → Gsa
+gsaAt n = standard gsaLayout .at n 0 .1
+
+-- A record without values.
+abbrev pub blankGsa : Gsa
+blankGsa = record { selection = 0; fix = 0; satellites = replicate 12 noMaybe; pdop = noNumber; hdop = noNumber; vdop = noNumber }
+
+abbrev pub gsaTold : List ℤ → Talker → ℕ → (ℕ → List ℕ) → Answer
+gsaTold out t = readBy (refuses out) gsaRow (λ v. gives out 3 (gsaNumbers t (gsaMade v)))
 
 -- The satellites, and the first wrong field from theirs on; rest is the first after them.
 unfoldable pub twelveOf : Twelves Got → ℕ → Twelve
 twelveOf g rest = record { wrong = twelveRow .wrong g 2 rest; satellites = listed (twelveRow .value g) }
 
 -- What the last fields, and those before them, come to.
-unfoldable pub gsaFrom : Talker → Got → Got → Twelve → Got → Got → Got → Reading
-gsaFrom t selection fix active pdop hdop vdop =
+unfoldable pub gsaFrom : List ℤ → Talker → Got → Got → Twelve → Got → Got → Got → Answer
+gsaFrom out t selection fix active pdop hdop vdop =
     pick (eqb (nearOf 0 (selection .wrong) (nearOf 1 (fix .wrong) (active .wrong))) 0)
-    (gsaBeside t
+    (gives out 3 (gsaNumbers t
     (record {
       selection = selection .value;
       fix = fix .value;
@@ -109,8 +129,8 @@ gsaFrom t selection fix active pdop hdop vdop =
       pdop = numberOf pdop;
       hdop = numberOf hdop;
       vdop = numberOf vdop;
-    }))
-    (refused 5 (nearOf 0 (selection .wrong) (nearOf 1 (fix .wrong) (active .wrong))))
+    })))
+    (refuses out 5 (nearOf 0 (selection .wrong) (nearOf 1 (fix .wrong) (active .wrong))))
 
 -- The satellite in place k, counted from 0: whether it is wrong, and its field.
 abbrev pub satelliteWrong : Gsa → ℕ → ℕ

@@ -2,18 +2,112 @@
 use address::Talker;
 use form::Maybe;
 use form::got::Got;
+use form_number::Number;
 use frame::Written;
-use records::Gsa;
-use records::Reading;
-use records::Sentence;
+use numbers::Told;
 ghost use mathlib.Core.List.{[], _∷_};
 ghost use mathlib.Core.Path.{_≡_};
 ghost use Rattle.put.specs.Wrote.{held, Puts, PutsFields};
 ghost use Rattle.fields.specs.Places.{fieldsBy};
 ghost use Rattle.frame.specs.Written.{faultAt, Writes};
 ghost use Rattle.form.specs.Wrong.{nearOf};
-ghost use Rattle.kind_gsa.specs.Row.{gsaBody, gsaFields, gsaFrom, gsaOf, gsaWrong, satelliteField, satelliteWrong, twelveOf};
+ghost use Rattle.form.specs.Numbers.{maybeLayout};
+ghost use Rattle.numbers.specs.Layout.{listAt, listNumbers};
+ghost use Rattle.numbers.specs.Numbers.{laid};
+ghost use Rattle.numbers.specs.Told.{gives, Tells};
+ghost use Rattle.kind_gsa.specs.Row.{gsaAt, gsaNumbers, gsaTold};
+ghost use Rattle.kind_gsa.specs.Row.{gsaBody, gsaFields, gsaFrom, gsaWrong, satelliteField, satelliteWrong, twelveOf};
 ghost use Rattle.kind_gsa.specs.Row.{twelveRow};
+
+pub struct Gsa {
+    pub selection: u32,
+    pub fix: u32,
+    pub satellites: [Maybe; 12],
+    pub pdop: Number,
+    pub hdop: Number,
+    pub vdop: Number,
+}
+
+// Stores the two numbers of a satellite of a GSA at the start of `out`, where there is room for them.
+fn lay_satellite(out: &mut [i64], m: Maybe) -> bool
+    ensures { λ _. ⌜ now (out .exit) ≡ laid (maybeLayout .numbers m []) (now (out .entry)) ⌝ }
+{
+    let v = [m.there as i64, m.value as i64];
+    numbers::lay(out, &v)
+}
+
+// The same for its twelve.
+fn lay_twelve(out: &mut [i64], s: [Maybe; 12]) -> bool
+    ensures { λ _. ⌜ now (out .exit) ≡ laid (listNumbers maybeLayout s []) (now (out .entry)) ⌝ }
+{
+    if out.len() < 24 {
+        return false;
+    }
+    let mut i: usize = 0;
+    while i < 12 {
+        lay_satellite(&mut out[2 * i..], s[i]);
+        i += 1;
+    }
+    true
+}
+
+// Lays the numbers of a record, in the order of docs/LAYOUT.md.
+fn lay(out: &mut [i64], t: Talker, r: Gsa) -> Told
+    ensures { λ b. ⌜ Tells (gives (now (out .entry)) 3 (gsaNumbers t r)) b (now (out .exit)) ⌝ }
+{
+    if out.len() < 33 {
+        return numbers::refuse(8, 0);
+    }
+    let talker = numbers::talker_number(t);
+    let first = [talker as i64, r.selection as i64, r.fix as i64];
+    let last = [
+        r.pdop.there as i64,
+        r.pdop.value as i64,
+        r.hdop.there as i64,
+        r.hdop.value as i64,
+        r.vdop.there as i64,
+        r.vdop.value as i64,
+    ];
+    let satellites = r.satellites;
+    numbers::lay(out, &first);
+    lay_twelve(&mut out[3..], satellites);
+    numbers::lay(&mut out[27..], &last);
+    numbers::bare(3)
+}
+
+// The twelve satellites of a GSA.
+fn twelve_at(n: &[i64]) -> [Maybe; 12]
+    ensures { λ r. ⌜ r ≡ listAt maybeLayout (now (n .entry)) 3 12 ⌝ }
+{
+    [
+        form::from_numbers::maybe(n, 3),
+        form::from_numbers::maybe(n, 5),
+        form::from_numbers::maybe(n, 7),
+        form::from_numbers::maybe(n, 9),
+        form::from_numbers::maybe(n, 11),
+        form::from_numbers::maybe(n, 13),
+        form::from_numbers::maybe(n, 15),
+        form::from_numbers::maybe(n, 17),
+        form::from_numbers::maybe(n, 19),
+        form::from_numbers::maybe(n, 21),
+        form::from_numbers::maybe(n, 23),
+        form::from_numbers::maybe(n, 25),
+    ]
+}
+
+// The record that numbers say; a number past the end is taken as 0.
+pub fn at(n: &[i64]) -> Gsa
+    ensures { λ r. ⌜ r ≡ gsaAt (now (n .entry)) ⌝ }
+{
+    Gsa {
+        selection: numbers::whole_at(n, 1),
+        fix: numbers::whole_at(n, 2),
+        satellites: twelve_at(n),
+        pdop: form_number::from_numbers::number(n, 27),
+        hdop: form_number::from_numbers::number(n, 29),
+        vdop: form_number::from_numbers::number(n, 31),
+    }
+}
 
 // The twelve satellites, and the first wrong field from theirs on.
 struct Twelve {
@@ -88,8 +182,9 @@ fn active_in(s: &[u8], p: &[usize], rest: usize) -> Twelve
     twelve_from(a1, a2, a3, a4, a5, a6, a7, a8, a9, a10, a11, a12, rest)
 }
 
-// The record, or the first wrong field.
+// Lays the record, or refuses the first wrong field.
 fn gsa_from(
+    out: &mut [i64],
     t: Talker,
     selection: Got,
     fix: Got,
@@ -97,18 +192,19 @@ fn gsa_from(
     pdop: Got,
     hdop: Got,
     vdop: Got,
-) -> Reading
-    ensures { λ r. ⌜ r ≡ gsaFrom t selection fix active pdop hdop vdop ⌝ }
+) -> Told
+    ensures { λ r. ⌜ Tells (gsaFrom (now (out .entry)) t selection fix active pdop hdop vdop) r (now (out .exit)) ⌝ }
 {
     let w2 = form::keep::near(1, fix.wrong, active.wrong);
     let w1 = form::keep::near(0, selection.wrong, w2);
     if w1 != 0 {
-        return records::blank::alone(Sentence::Refused(5, w1));
+        return numbers::refuse(5, w1);
     }
     let satellites = active.satellites;
-    Reading {
-        sentence: Sentence::Gsa(t),
-        gsa: Gsa {
+    lay(
+        out,
+        t,
+        Gsa {
             selection: selection.value,
             fix: fix.value,
             satellites,
@@ -116,19 +212,19 @@ fn gsa_from(
             hdop: form_number::keep::number(hdop),
             vdop: form_number::keep::number(vdop),
         },
-        gsv: records::blank::gsv(),
-    }
+    )
 }
 
-// The record of the fields of a body `s`, `n` of them after the address, by their ends `p`. Refused: 4
-// where there are not so many as the kind has, 5 at the first wrong field.
+// Reads the fields of a body `s`, `n` of them after the address, by their ends `p`, and lays the numbers of the record at
+// the start of `out`. Refused: 4 where there are not so many fields as the kind has, 5 at the first wrong field, 8 where
+// `out` is shorter than the record; then `out` is left.
 //
 //     $GPGSA,A,3,05,12,17,,,,,,,,,,2.1,1.2,1.7*34
-pub fn read(t: Talker, n: usize, s: &[u8], p: &[usize]) -> Reading
-    ensures { λ r. ⌜ r ≡ gsaOf t n (fieldsBy (now (p .entry)) (now (s .entry))) ⌝ }
+pub fn read(out: &mut [i64], t: Talker, n: usize, s: &[u8], p: &[usize]) -> Told
+    ensures { λ r. ⌜ Tells (gsaTold (now (out .entry)) t n (fieldsBy (now (p .entry)) (now (s .entry)))) r (now (out .exit)) ⌝ }
 {
     if n != 17 {
-        return records::blank::alone(Sentence::Refused(4, 0));
+        return numbers::refuse(4, 0);
     }
     let selection = form_letter::read::letter_in(s, p, 1, b"MA");
     let fix = form_number::fixed::exact_in(s, p, 2, 1, 1, 3);
@@ -139,7 +235,7 @@ pub fn read(t: Talker, n: usize, s: &[u8], p: &[usize]) -> Reading
     let w16 = form::keep::near(15, hdop.wrong, w17);
     let w15 = form::keep::near(14, pdop.wrong, w16);
     let active = active_in(s, p, w15);
-    gsa_from(t, selection, fix, active, pdop, hdop, vdop)
+    gsa_from(out, t, selection, fix, active, pdop, hdop, vdop)
 }
 
 // The first wrong field from a satellite's on: of the first six, and of the last six; `rest` is the first after

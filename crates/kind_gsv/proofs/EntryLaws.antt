@@ -24,8 +24,8 @@ use Rattle.form_number.specs.Fixed.{exactForm, fixedForm, fixedOf}
 use Rattle.form_number.proofs.Laws.{lawful-exact, lawful-fixed, short-exact, short-fixed}
 use Rattle.form_number.proofs.Place.{prefix-exact, prefix-fixed}
 use Rattle.form_number.proofs.Same.{same-exact, same-fixed}
-use Rattle.records.specs.Blank.{blankEntry, isBlank}
-use Rattle.records.specs.declared.Entry.{Entry}
+use Rattle.kind_gsv.specs.Blank.{blankEntry, isBlank}
+use Rattle.kind_gsv.specs.declared.Entry.{Entry}
 use Rattle.kind_gsv.specs.Row.{azimuth, elevation, entry, entryAt, entryFrom, entryIf, firstOf, noEntry, satelliteNumber, signal}
 use Rattle.kind_gsv.specs.declared.GotEntry.{GotEntry}
 

@@ -4,8 +4,8 @@ use mathlib.Core.Bool.{Bool, false, true}
 use mathlib.Core.List.{_++_, List}
 use mathlib.Core.Path.{_∙_, _≡_, ap, refl, sym}
 use Rattle.form.specs.Wrong.{After, firstWrong, nearOf}
-use Rattle.records.specs.declared.Entry.{Entry}
-use Rattle.records.specs.declared.Gsv.{Gsv}
+use Rattle.kind_gsv.specs.declared.Entry.{Entry}
+use Rattle.kind_gsv.specs.declared.Gsv.{Gsv}
 use Rattle.kind_gsv.specs.Row.{lineNumber, satelliteTotal}
 use Rattle.kind_gsv.specs.Writing.{entryAfters, entryOf, firstIn, gsvWrong, used}
 

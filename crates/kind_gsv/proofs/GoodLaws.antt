@@ -7,7 +7,7 @@ use lib.Dec.{eqb, ltb}
 use borrow.Author.Tests.{eqb-true, le-ltb, ltb-false}
 use Rattle.digits.specs.Pick.{pick}
 use Rattle.frame.specs.Written.{refused, wrote}
-use Rattle.records.specs.declared.Gsv.{Gsv}
+use Rattle.kind_gsv.specs.declared.Gsv.{Gsv}
 use Rattle.kind_gsv.specs.Writing.{gsvFault, gsvWrong, restBlank}
 
 pub record Good (r : Gsv) : Type 0 where

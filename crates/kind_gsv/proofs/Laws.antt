@@ -5,7 +5,6 @@ use mathlib.Core.List.{[], _++_, _∷_, List}
 use mathlib.Core.Path.{_≡_, refl}
 use lib.Dec.{lit<, lit≤, ltb}
 use Rattle.digits.proofs.Bools.{and-both, and-left, and-right}
-use Rattle.address.specs.declared.Talker.{Talker}
 use Rattle.form.specs.Kind.{faultBy}
 use Rattle.form.specs.Row.{one}
 use Rattle.form.specs.Values.{outside}
@@ -17,11 +16,9 @@ use Rattle.form.proofs.Values.{zero-one}
 use Rattle.form.proofs.Zeros.{all-zero, Zero, zero-all}
 use Rattle.form_number.proofs.Laws.{lawful-exact}
 use Rattle.form_number.proofs.Place.{prefix-exact}
-use Rattle.records.specs.Blank.{blankGsa, isBlank}
-use Rattle.records.specs.declared.Entry.{Entry}
-use Rattle.records.specs.declared.Gsv.{Gsv}
-use Rattle.records.specs.declared.Reading.{Reading}
-use Rattle.records.specs.declared.Sentence.the-variants as S
+use Rattle.kind_gsv.specs.Blank.{isBlank}
+use Rattle.kind_gsv.specs.declared.Entry.{Entry}
+use Rattle.kind_gsv.specs.declared.Gsv.{Gsv}
 use Rattle.kind_gsv.specs.Row.{entryIf, entryRow, gsvRow}
 use Rattle.kind_gsv.specs.Writing.{entryAfters, entryOf, gsvValues, gsvWrong, restBlank, used}
 use Rattle.kind_gsv.proofs.EntryLaws.{first-none, lawful-entryIf, none-first, prefix-entryIf}
@@ -36,10 +33,6 @@ prefix-gsv count =
     let line = prefix-one (prefix-exact 1 1 9 (lit≤ tt) (lit< tt) (lit≤ tt)) in
     line ⊩ line ⊩ prefix-one (prefix-exact 2 0 99 (lit≤ tt) (lit< tt) (lit≤ tt)) ⊩ prefix-at count 0 ⊩ prefix-at count 1 ⊩ prefix-at count 2
     ⊩ prefix-at count 3
-
--- What a reading of a GSV sentence is.
-abbrev pub theGsv : Talker → Gsv → Reading
-theGsv t r = record { sentence = S.Gsv t; gsa = blankGsa; gsv = r }
 
 -- The row of so many entries is lawful.
 pub lawful-gsv : (count : ℕ) → Lawful (gsvRow count)

@@ -3,3 +3,4 @@ pub mod Firsts
 pub mod GoodLaws
 pub mod Laws
 pub mod Places
+pub mod Numbers

@@ -5,49 +5,58 @@ use mathlib.Core.List.{List}
 use mathlib.Core.Path.{_∙_, _≡_, ap, refl, sym}
 use native.Mathlib.Omega.{arith}
 use lib.Dec.{eqb, ltb}
+use lib.IntN.{ℤ}
 use borrow.Author.Tests.{eqb-true, lt-ltb}
 use Rattle.digits.specs.Pick.{pick}
 use Rattle.address.specs.declared.Talker.{Talker}
 use Rattle.form.specs.Kind.{answerBy}
 use Rattle.form.specs.Wrong.{nearOf}
-use Rattle.records.specs.declared.Reading.{Reading}
-use Rattle.kind_gsv.specs.Row.{entriesOf, entryForm, gsvFrom, gsvRow, gsvWith, lineNumber, refused, satelliteTotal}
+use Rattle.numbers.specs.Told.{Answer, gives, refuses}
+use Rattle.kind_gsv.specs.Row.{entriesOf, entryForm, gsvFrom, gsvNumbers, gsvRow, gsvWith, lineNumber, Readings, satelliteTotal}
 
-abbrev pub fourPlaces : Talker → ℕ → (ℕ → List ℕ) → Reading
-fourPlaces t count field =
-    gsvFrom t count (
-      lineNumber .got field,
+-- What the fields read as, each entry in its place among four.
+abbrev pub fourPlaces : ℕ → (ℕ → List ℕ) → Readings
+fourPlaces count field = (
+  lineNumber .got field,
+  (
+    lineNumber .got (λ k. field (1 + k)),
+    (
+      satelliteTotal .got (λ k. field (2 + k)),
       (
-        lineNumber .got (λ k. field (1 + k)),
+        entryForm (ltb 0 count) 4 5 6 7 field,
         (
-          satelliteTotal .got (λ k. field (2 + k)),
+          entryForm (ltb 1 count) 8 9 10 11 field,
           (
-            entryForm (ltb 0 count) 4 5 6 7 field,
-            (
-              entryForm (ltb 1 count) 8 9 10 11 field,
-              (
-                entryForm (ltb 2 count) 12 13 14 15 field,
-                entryForm (ltb 3 count) 16 17 18 19 field,
-              ),
-            ),
+            entryForm (ltb 2 count) 12 13 14 15 field,
+            entryForm (ltb 3 count) 16 17 18 19 field,
           ),
         ),
       ),
-    )
+    ),
+  ),
+)
 
-pub with-four : (t : Talker) (count : ℕ) (field : ℕ → List ℕ)
-    → pick (ltb 4 count) (refused 4 0) (fourPlaces t count field) ≡ gsvWith t count
-    field
-unfolding gsvWith gsvFrom gsvRow entryForm nearOf answerBy
-with-four t zero field = refl
-with-four t (suc zero) field = refl
-with-four t (suc (suc zero)) field = refl
-with-four t (suc (suc (suc zero))) field = refl
-with-four t (suc (suc (suc (suc zero)))) field = refl
-with-four t (suc (suc (suc (suc (suc count))))) field = rw (lt-ltb 4 (suc (suc (suc (suc (suc count))))) (omega arith))
+module _ (out : List ℤ) (t : Talker) where
+  abbrev pub gsvBy : ℕ → (ℕ → List ℕ) → Answer
+  gsvBy count field = gsvWith (refuses out) (λ r. gives out 4 (gsvNumbers t r)) count field
 
-pub with-few : (t : Talker) (count : ℕ) (field : ℕ → List ℕ) → ltb 4 count ≡ false → fourPlaces t count field ≡ gsvWith t count field
-with-few t count field h = sym (ap (λ (b : Bool). pick b (refused 4 0) (fourPlaces t count field)) h) ∙ with-four t count field
+  with-four : (count : ℕ) (field : ℕ → List ℕ)
+      → pick (ltb 4 count) (refuses out 4 0) (gsvFrom out t count (fourPlaces count field)) ≡ gsvBy count field
+  unfolding gsvWith gsvFrom gsvRow entryForm nearOf answerBy
+  with-four zero field = refl
+  with-four (suc zero) field = refl
+  with-four (suc (suc zero)) field = refl
+  with-four (suc (suc (suc zero))) field = refl
+  with-four (suc (suc (suc (suc zero)))) field = refl
+  with-four (suc (suc (suc (suc (suc count))))) field = rw (lt-ltb 4 (suc (suc (suc (suc (suc count))))) (omega arith))
+
+  pub with-few : (count : ℕ) (field : ℕ → List ℕ) → ltb 4 count ≡ false → gsvFrom out t count (fourPlaces count field) ≡ gsvBy count field
+  with-few count field h =
+      sym (ap (λ (b : Bool). pick b (refuses out 4 0) (gsvFrom out t count (fourPlaces count field))) h) ∙ with-four count field
+
+  pub with-many : (count : ℕ) (field : ℕ → List ℕ) → ltb 4 count ≡ true → refuses out 4 0 ≡ gsvBy count field
+  with-many count field h =
+      sym (ap (λ (b : Bool). pick b (refuses out 4 0) (gsvFrom out t count (fourPlaces count field))) h) ∙ with-four count field
 
 -- A line of at most four entries has as many fields as their row.
 abbrev of : Bool → Bool → Bool → Bool → Bool → ℕ

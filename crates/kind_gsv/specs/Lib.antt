@@ -1,2 +1,3 @@
+pub mod Blank
 pub mod Row
 pub mod Writing

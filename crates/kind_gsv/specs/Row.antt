@@ -15,12 +15,14 @@ use Rattle.form.specs.declared.Maybe.{Maybe}
 use Rattle.form.specs.declared.got.Got.{Got}
 use Rattle.form_number.specs.Fixed.{satelliteLeast, satelliteMost}
 use Rattle.form_number.specs.Forms.{exact, fixed}
-use Rattle.records.specs.Blank.{aloneOf, blankEntry, blankGsa, isBlank}
-use Rattle.records.specs.declared.Entry.{Entry}
-use Rattle.records.specs.declared.Gsv.{Gsv}
-use Rattle.records.specs.declared.Reading.{Reading}
-use Rattle.records.specs.declared.Sentence.the-variants as S
+use Rattle.kind_gsv.specs.Blank.{blankEntry, isBlank}
+use Rattle.kind_gsv.specs.declared.Entry.{Entry}
+use Rattle.kind_gsv.specs.declared.Gsv.{Gsv}
 use Rattle.kind_gsv.specs.declared.GotEntry.{GotEntry}
+use Rattle.numbers.specs.Layout.{_then_, Layout, several, shaped, standard, standardNumbers, whole}
+use Rattle.numbers.specs.Told.{Answer, gives, refuses}
+use Rattle.form.specs.Numbers.{maybeLayout}
+use lib.IntN.{ℤ}
 
 -- The forms of an entry.
 abbrev pub satelliteNumber : Form Got ℕ
@@ -51,7 +53,13 @@ entryAt w n e a s =
 unfoldable pub entryFrom : Got → Got → Got → Got → GotEntry
 entryFrom n e a s = entryAt (firstOf (n .wrong) (e .wrong) (a .wrong) (s .wrong)) n e a s
 
--- A satellite.
+-- A satellite, of a GSV and of a sky, in numbers; and as a form.
+abbrev pub entryLayout : Layout Entry
+entryLayout =
+    shaped (λ v. record { number = v .0; elevation = v .1 .0; azimuth = v .1 .1 .0; signal = v .1 .1 .1 })
+    (λ e. (e .number, (e .elevation, (e .azimuth, e .signal))))
+    (whole then maybeLayout then maybeLayout then maybeLayout)
+
 abbrev pub entry : Form GotEntry Entry
 entry =
     record {
@@ -68,6 +76,7 @@ entry =
       text = λ e.
           satelliteNumber .text (e .number)
           ++ (elevation .text (e .elevation) ++ (azimuth .text (e .azimuth) ++ signal .text (e .signal)));
+      layout = entryLayout;
     }
 
 -- Entry k, counted from 0, of so many; one that is not used is blank.
@@ -104,29 +113,42 @@ gsvMade count v =
       entries = v .1 .1 .1 .0 ∷ v .1 .1 .1 .1 .0 ∷ v .1 .1 .1 .1 .1 .0 ∷ v .1 .1 .1 .1 .1 .1 ∷ [];
     }
 
--- A GSV answers a reading, with its record beside the sentence.
-abbrev pub refused : ℕ → ℕ → Reading
-refused number at = aloneOf (S.Refused number at)
+-- The record as numbers, as docs/LAYOUT.md lays them out, in the order of its fields; and back.
+unfoldable pub gsvLayout : Layout Gsv
+gsvLayout =
+    shaped
+    (λ v. record {
+      lines = v .0;
+      line = v .1 .0;
+      satellites = v .1 .1 .0;
+      count = v .1 .1 .1 .0;
+      entries = v .1 .1 .1 .1;
+    })
+    (λ r. (r .lines, (r .line, (r .satellites, (r .count, r .entries)))))
+    (whole then whole then whole then whole then several 4 blankEntry entryLayout)
 
-abbrev pub gsvBeside : Talker → ℕ → Values → Reading
-gsvBeside t count v = record { sentence = S.Gsv t; gsa = blankGsa; gsv = gsvMade count v }
+abbrev pub gsvNumbers : Talker → Gsv → List ℤ
+gsvNumbers = standardNumbers gsvLayout
+
+abbrev pub gsvAt : List ℤ → Gsv
+gsvAt n = standard gsvLayout .at n 0 .1
 
 -- How many entries a line of n fields has; 5 where no line has so many fields.
 unfoldable pub entriesOf : ℕ → ℕ
 entriesOf n = cond (eqb n 3) 0 (cond (eqb n 7) 1 (cond (eqb n 11) 2 (cond (eqb n 15) 3 (cond (eqb n 19) 4 5))))
 
 -- With that many entries.
-unfoldable pub gsvWith : Talker → ℕ → (ℕ → List ℕ) → Reading
-gsvWith t count field =
-    pick (ltb 4 count) (refused 4 0) (answerBy refused (gsvRow count) (gsvBeside t count) (gsvRow count .got field 0))
+unfoldable pub gsvWith : {A : Type 0} → (ℕ → ℕ → A) → (Gsv → A) → ℕ → (ℕ → List ℕ) → A
+gsvWith refuse make count field =
+    pick (ltb 4 count) (refuse 4 0) (answerBy refuse (gsvRow count) (λ v. make (gsvMade count v)) (gsvRow count .got field 0))
 
-unfoldable pub gsvOf : Talker → ℕ → (ℕ → List ℕ) → Reading
-gsvOf t n field = gsvWith t (entriesOf n) field
+abbrev pub gsvTold : List ℤ → Talker → ℕ → (ℕ → List ℕ) → Answer
+gsvTold out t n field = gsvWith (refuses out) (λ r. gives out 4 (gsvNumbers t r)) (entriesOf n) field
 
 -- An entry that is used or not, of four fields; and what entries come to, each in its place among four, since one that is not used is never
 -- wrong.
 unfoldable pub entryForm : Bool → ℕ → ℕ → ℕ → ℕ → (ℕ → List ℕ) → GotEntry
 entryForm on n e a s field = entryIf on .got (λ k. field (getD (0 ∷ n ∷ e ∷ a ∷ s ∷ []) k 0))
 
-unfoldable pub gsvFrom : Talker → ℕ → Readings → Reading
-gsvFrom t count g = answerBy refused (gsvRow 4) (gsvBeside t count) g
+unfoldable pub gsvFrom : List ℤ → Talker → ℕ → Readings → Answer
+gsvFrom out t count g = answerBy (refuses out) (gsvRow 4) (λ v. gives out 4 (gsvNumbers t (gsvMade count v))) g

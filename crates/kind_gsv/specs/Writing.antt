@@ -11,9 +11,9 @@ use Rattle.frame.specs.Written.{refused, wrote}
 use Rattle.frame.specs.declared.Written.{Written}
 use Rattle.form.specs.Kind.{fieldsFor}
 use Rattle.form.specs.Wrong.{After, after, firstWrong, nearOf}
-use Rattle.records.specs.Blank.{blankEntry, isBlank}
-use Rattle.records.specs.declared.Entry.{Entry}
-use Rattle.records.specs.declared.Gsv.{Gsv}
+use Rattle.kind_gsv.specs.Blank.{blankEntry, isBlank}
+use Rattle.kind_gsv.specs.declared.Entry.{Entry}
+use Rattle.kind_gsv.specs.declared.Gsv.{Gsv}
 use Rattle.kind_gsv.specs.Row.{azimuth, elevation, entryIf, gsvRow, lineNumber, satelliteNumber, satelliteTotal, signal, Values}
 
 -- The entry in place k, counted from 0; and whether it is used.

@@ -1,20 +1,132 @@
 // GSV: the number of lines, this line, the number of satellites, and up to four of them.
+pub mod blank;
+
 use address::Talker;
+use form::Maybe;
 use form::got::Got;
 use frame::Written;
-use records::Entry;
-use records::Gsv;
-use records::Reading;
-use records::Sentence;
+use numbers::Told;
 ghost use Prim.Native.Nat.{_≤_};
 ghost use mathlib.Core.Path.{_≡_};
 ghost use Rattle.put.specs.Wrote.{held, Puts, PutsFields};
 ghost use Rattle.fields.specs.Places.{fieldsBy};
 ghost use Rattle.frame.specs.Written.{Writes};
+ghost use Rattle.kind_gsv.specs.Blank.{isBlank};
+ghost use mathlib.Core.List.{[]};
 ghost use Rattle.form.specs.Values.{isMissing};
-ghost use Rattle.records.specs.Blank.{isBlank};
-ghost use Rattle.kind_gsv.specs.Row.{entriesOf, entryForm, entryFrom, firstOf, gsvFrom, gsvOf};
+ghost use Rattle.numbers.specs.Layout.{listAt, listNumbers};
+ghost use Rattle.numbers.specs.Numbers.{laid};
+ghost use Rattle.numbers.specs.Told.{gives, Tells};
+ghost use Rattle.kind_gsv.specs.Row.{entryLayout, gsvAt, gsvNumbers, gsvTold};
+ghost use Rattle.kind_gsv.specs.Row.{entriesOf, entryForm, entryFrom, firstOf, gsvFrom};
 ghost use Rattle.kind_gsv.specs.Writing.{entryFields, firstIn, gsvBody, gsvFault, gsvFields, gsvWrong, restBlank};
+
+// A satellite of a GSV sentence; blank is all zero and missing.
+pub struct Entry {
+    pub number: u32,
+    pub elevation: Maybe,
+    pub azimuth: Maybe,
+    pub signal: Maybe,
+}
+
+// `count` entries are used, the places after them are blank.
+pub struct Gsv {
+    pub lines: u32,
+    pub line: u32,
+    pub satellites: u32,
+    pub count: u32,
+    pub entries: [Entry; 4],
+}
+
+// Stores the seven numbers of a satellite of a GSV at the start of `out`, where there is room for them.
+pub fn lay_entry(out: &mut [i64], e: Entry) -> bool
+    ensures { λ _. ⌜ now (out .exit) ≡ laid (entryLayout .numbers e []) (now (out .entry)) ⌝ }
+{
+    let v = [
+        e.number as i64,
+        e.elevation.there as i64,
+        e.elevation.value as i64,
+        e.azimuth.there as i64,
+        e.azimuth.value as i64,
+        e.signal.there as i64,
+        e.signal.value as i64,
+    ];
+    numbers::lay(out, &v)
+}
+
+// The same for its four.
+fn lay_four(out: &mut [i64], s: [Entry; 4]) -> bool
+    ensures { λ _. ⌜ now (out .exit) ≡ laid (listNumbers entryLayout s []) (now (out .entry)) ⌝ }
+{
+    if out.len() < 28 {
+        return false;
+    }
+    let mut i: usize = 0;
+    while i < 4 {
+        lay_entry(&mut out[7 * i..], s[i]);
+        i += 1;
+    }
+    true
+}
+
+// Lays the numbers of a record, in the order of docs/LAYOUT.md.
+fn lay(out: &mut [i64], t: Talker, r: Gsv) -> Told
+    ensures { λ b. ⌜ Tells (gives (now (out .entry)) 4 (gsvNumbers t r)) b (now (out .exit)) ⌝ }
+{
+    if out.len() < 33 {
+        return numbers::refuse(8, 0);
+    }
+    let talker = numbers::talker_number(t);
+    let first = [
+        talker as i64,
+        r.lines as i64,
+        r.line as i64,
+        r.satellites as i64,
+        r.count as i64,
+    ];
+    let entries = r.entries;
+    numbers::lay(out, &first);
+    lay_four(&mut out[5..], entries);
+    numbers::bare(4)
+}
+
+// The satellite of a GSV, or of a sky, whose number is in place `i`.
+pub fn entry_at(n: &[i64], i: u16) -> Entry
+    ensures { λ r. ⌜ r ≡ entryLayout .at (now (n .entry)) i ⌝ }
+{
+    let at = i as usize;
+    Entry {
+        number: numbers::whole_at(n, at),
+        elevation: form::from_numbers::maybe_at(n, at + 1),
+        azimuth: form::from_numbers::maybe_at(n, at + 1 + 2),
+        signal: form::from_numbers::maybe_at(n, at + 1 + 2 + 2),
+    }
+}
+
+// The four places of a GSV.
+fn four(n: &[i64]) -> [Entry; 4]
+    ensures { λ r. ⌜ r ≡ listAt entryLayout (now (n .entry)) 5 4 ⌝ }
+{
+    [
+        entry_at(n, 5),
+        entry_at(n, 12),
+        entry_at(n, 19),
+        entry_at(n, 26),
+    ]
+}
+
+// The record that numbers say; a number past the end is taken as 0.
+pub fn at(n: &[i64]) -> Gsv
+    ensures { λ r. ⌜ r ≡ gsvAt (now (n .entry)) ⌝ }
+{
+    Gsv {
+        lines: numbers::whole_at(n, 1),
+        line: numbers::whole_at(n, 2),
+        satellites: numbers::whole_at(n, 3),
+        count: numbers::whole_at(n, 4),
+        entries: four(n),
+    }
+}
 
 // A satellite that was read of four fields: which of them is wrong, counted from 1, or 0; blank where
 // one is wrong.
@@ -49,7 +161,7 @@ fn entry_from(number: Got, elevation: Got, azimuth: Got, signal: Got) -> GotEntr
     if wrong != 0 {
         return GotEntry {
             wrong,
-            entry: records::blank::entry(),
+            entry: blank::entry(),
         };
     }
     GotEntry {
@@ -81,7 +193,7 @@ fn entry_in(
     if !used {
         return GotEntry {
             wrong: 0,
-            entry: records::blank::entry(),
+            entry: blank::entry(),
         };
     }
     let number = form_number::fixed::exact_in(s, p, k1, 2, 1, 99);
@@ -113,8 +225,9 @@ fn entries_of(n: usize) -> u32
     5
 }
 
-// The record, or the first wrong field.
+// Lays the record, or refuses the first wrong field.
 fn gsv_from(
+    out: &mut [i64],
     t: Talker,
     count: u32,
     lines: Got,
@@ -124,8 +237,8 @@ fn gsv_from(
     e2: GotEntry,
     e3: GotEntry,
     e4: GotEntry,
-) -> Reading
-    ensures { λ r. ⌜ r ≡ gsvFrom t count (lines, (line, (satellites, (e1, (e2, (e3, e4)))))) ⌝ }
+) -> Told
+    ensures { λ r. ⌜ Tells (gsvFrom (now (out .entry)) t count (lines, (line, (satellites, (e1, (e2, (e3, e4))))))) r (now (out .exit)) ⌝ }
 {
     let w16 = form::keep::near(15, e4.wrong, 0);
     let w12 = form::keep::near(11, e3.wrong, w16);
@@ -135,35 +248,36 @@ fn gsv_from(
     let w2 = form::keep::near(1, line.wrong, w3);
     let w1 = form::keep::near(0, lines.wrong, w2);
     if w1 != 0 {
-        return records::blank::alone(Sentence::Refused(5, w1));
+        return numbers::refuse(5, w1);
     }
     let a = e1.entry;
     let b = e2.entry;
     let c = e3.entry;
     let d = e4.entry;
-    Reading {
-        sentence: Sentence::Gsv(t),
-        gsa: records::blank::gsa(),
-        gsv: Gsv {
+    lay(
+        out,
+        t,
+        Gsv {
             lines: lines.value,
             line: line.value,
             satellites: satellites.value,
             count,
             entries: [a, b, c, d],
         },
-    }
+    )
 }
 
-// The record of the fields of a body `s`, `n` of them after the address, by their ends `p`. Refused: 4
-// where no line has so many fields, 5 at the first wrong field.
+// Reads the fields of a body `s`, `n` of them after the address, by their ends `p`, and lays the numbers of the record at
+// the start of `out`. Refused: 4 where no line has so many fields, 5 at the first wrong field, 8 where
+// `out` is shorter than the record; then `out` is left.
 //
 //     $GPGSV,5,5,17,77,71,048,53*43
-pub fn read(t: Talker, n: usize, s: &[u8], p: &[usize]) -> Reading
-    ensures { λ r. ⌜ r ≡ gsvOf t n (fieldsBy (now (p .entry)) (now (s .entry))) ⌝ }
+pub fn read(out: &mut [i64], t: Talker, n: usize, s: &[u8], p: &[usize]) -> Told
+    ensures { λ r. ⌜ Tells (gsvTold (now (out .entry)) t n (fieldsBy (now (p .entry)) (now (s .entry)))) r (now (out .exit)) ⌝ }
 {
     let count = entries_of(n);
     if 4 < count {
-        return records::blank::alone(Sentence::Refused(4, 0));
+        return numbers::refuse(4, 0);
     }
     let lines = form_number::fixed::exact_in(s, p, 1, 1, 1, 9);
     let line = form_number::fixed::exact_in(s, p, 2, 1, 1, 9);
@@ -172,7 +286,7 @@ pub fn read(t: Talker, n: usize, s: &[u8], p: &[usize]) -> Reading
     let e2 = entry_in(s, p, 1 < count, 8, 9, 10, 11);
     let e3 = entry_in(s, p, 2 < count, 12, 13, 14, 15);
     let e4 = entry_in(s, p, 3 < count, 16, 17, 18, 19);
-    gsv_from(t, count, lines, line, satellites, e1, e2, e3, e4)
+    gsv_from(out, t, count, lines, line, satellites, e1, e2, e3, e4)
 }
 
 // The first wrong field from an entry's on, whose first field stands after `n` others; `rest` is the first

@@ -6,9 +6,10 @@ use Rattle.form.specs.Kind.{answerBy, faultBy, fieldsFor, readBy}
 use Rattle.form.specs.Row.{made, one, Row}
 use Rattle.form.specs.declared.got.Got.{Got}
 use Rattle.form_mask.specs.Forms.{code}
-use Rattle.records.specs.declared.CodeTold.{CodeTold}
-use Rattle.records.specs.declared.Sentence.{Sentence}
-use Rattle.records.specs.declared.Sentence.the-variants as S
+use Rattle.kind_pir_code.specs.declared.reply.CodeTold.{CodeTold}
+use Rattle.numbers.specs.Layout.{Layout, makerNumbers}
+use Rattle.numbers.specs.Told.{Answer, gives, refuses}
+use lib.IntN.{ℤ}
 
 abbrev pub Readings : Type 0
 Readings = Got
@@ -26,13 +27,23 @@ pireaRow =
     (λ r. r .code)
     pireaParts
 
--- What the contracts cite.
-abbrev pub pireaFrom : Got → Sentence
-pireaFrom code =
-    answerBy S.Refused pireaRow S.Ea code
+-- The record as numbers, as docs/LAYOUT.md lays them out, in the order of its fields; and back.
+unfoldable pub pireaLayout : Layout CodeTold
+pireaLayout = pireaRow .layout
 
-abbrev pub pireaOf : ℕ → (ℕ → List ℕ) → Sentence
-pireaOf = readBy S.Refused pireaRow S.Ea
+abbrev pub pireaNumbers : CodeTold → List ℤ
+pireaNumbers = makerNumbers pireaLayout
+
+abbrev pub pireaAt : List ℤ → CodeTold
+pireaAt n = pireaLayout .at n 0
+
+-- What the contracts cite.
+abbrev pub pireaFrom : List ℤ → Got → Answer
+pireaFrom out code =
+    answerBy (refuses out) pireaRow (λ r. gives out 15 (pireaNumbers r)) code
+
+abbrev pub pireaTold : List ℤ → ℕ → (ℕ → List ℕ) → Answer
+pireaTold out = readBy (refuses out) pireaRow (λ r. gives out 15 (pireaNumbers r))
 
 -- The first value outside its range, by the number of its field, or 0; the fields; the body.
 abbrev pub pireaWrong : CodeTold → ℕ

@@ -13,12 +13,13 @@ use Rattle.form_date.proofs.Laws.{lawful-filledZone, lawful-hhmm}
 use Rattle.form_date.proofs.PlaceZone.{prefix-filledZone, prefix-hhmm}
 use Rattle.kind_pir_datum.specs.Command.{pirtrParts, pirtrRow, zone}
 use Rattle.kind_pir_datum.specs.Reply.{pirtaParts, pirtaRow}
+use Rattle.form_date.specs.Numbers.{zoneLayout}
 
 pub lawful-pirtr : Lawful pirtrRow
 unfolding pirtrRow
 lawful-pirtr =
     lawful-made _ _ pirtrParts (λ v. refl) (λ r. refl)
-    (lawful-depending 1 6 (λ g. g .there) (λ m. m .there) (one (fixed 1 0 4)) zone (λ k. refl) (λ k. lit≤ tt) (λ g. refl)
+    (lawful-depending 1 6 zoneLayout (λ g. g .there) (λ m. m .there) (one (fixed 1 0 4)) zone (λ k. refl) (λ k. lit≤ tt) (λ g. refl)
     (lawful-one (lawful-fixed 1 0 4 (lit≤ tt) (lit≤ tt) (lit< tt))) (λ key. lawful-one (lawful-hhmm key)))
 
 pub lawful-pirta : Lawful pirtaRow
@@ -31,7 +32,7 @@ pub prefix-pirtr : Prefix pirtrRow
 unfolding pirtrRow
 prefix-pirtr =
     prefix-made _ _ pirtrParts (λ v. refl)
-    (prefix-depending 1 6 (λ g. g .there) (λ m. m .there) (one (fixed 1 0 4)) zone (λ k. refl) (prefix-one (prefix-fixed 1 0 4))
+    (prefix-depending 1 6 zoneLayout (λ g. g .there) (λ m. m .there) (one (fixed 1 0 4)) zone (λ k. refl) (prefix-one (prefix-fixed 1 0 4))
     (λ key. prefix-one (prefix-hhmm key)))
 
 pub prefix-pirta : Prefix pirtaRow

@@ -11,9 +11,11 @@ use Rattle.form.specs.declared.got.GotInt.{GotInt}
 use Rattle.form_number.specs.Forms.{fixed}
 use Rattle.form_date.specs.Forms.{hhmm}
 use Rattle.form_date.specs.declared.Zone.{Zone}
-use Rattle.records.specs.declared.DatumAsked.{DatumAsked}
-use Rattle.records.specs.declared.Sentence.{Sentence}
-use Rattle.records.specs.declared.Sentence.the-variants as S
+use Rattle.kind_pir_datum.specs.declared.command.DatumAsked.{DatumAsked}
+use Rattle.numbers.specs.Layout.{Layout, makerNumbers}
+use Rattle.form_date.specs.Numbers.{zoneLayout}
+use Rattle.numbers.specs.Told.{Answer, gives, refuses}
+use lib.IntN.{ℤ}
 
 -- The last datum.
 abbrev pub datumMost : ℕ
@@ -30,7 +32,7 @@ abbrev pub zone : Bool → Row GotInt Zone
 zone key = one (hhmm key)
 
 abbrev pub pirtrParts : Row Readings Values
-pirtrParts = depending 1 6 (λ g. g .there) (λ m. m .there) (one (fixed 1 0 datumMost)) zone
+pirtrParts = depending 1 6 zoneLayout (λ g. g .there) (λ m. m .there) (one (fixed 1 0 datumMost)) zone
 
 unfoldable pub pirtrRow : Row Readings DatumAsked
 pirtrRow =
@@ -39,13 +41,23 @@ pirtrRow =
     (λ r. (r .datum, r .zone))
     pirtrParts
 
--- What the contracts cite.
-abbrev pub pirtrFrom : Got → GotInt → Sentence
-pirtrFrom datum zone =
-    answerBy S.Refused pirtrRow S.Tr (datum, zone)
+-- The record as numbers, as docs/LAYOUT.md lays them out, in the order of its fields; and back.
+unfoldable pub pirtrLayout : Layout DatumAsked
+pirtrLayout = pirtrRow .layout
 
-abbrev pub pirtrOf : ℕ → (ℕ → List ℕ) → Sentence
-pirtrOf = readBy S.Refused pirtrRow S.Tr
+abbrev pub pirtrNumbers : DatumAsked → List ℤ
+pirtrNumbers = makerNumbers pirtrLayout
+
+abbrev pub pirtrAt : List ℤ → DatumAsked
+pirtrAt n = pirtrLayout .at n 0
+
+-- What the contracts cite.
+abbrev pub pirtrFrom : List ℤ → Got → GotInt → Answer
+pirtrFrom out datum zone =
+    answerBy (refuses out) pirtrRow (λ r. gives out 9 (pirtrNumbers r)) (datum, zone)
+
+abbrev pub pirtrTold : List ℤ → ℕ → (ℕ → List ℕ) → Answer
+pirtrTold out = readBy (refuses out) pirtrRow (λ r. gives out 9 (pirtrNumbers r))
 
 -- The first value outside its range, by the number of its field, or 0; the fields; the body.
 abbrev pub pirtrWrong : DatumAsked → ℕ

@@ -9,10 +9,11 @@ use Rattle.form.specs.declared.got.Got.{Got}
 use Rattle.form.specs.declared.got.GotInt.{GotInt}
 use Rattle.form_number.specs.Forms.{exact}
 use Rattle.form_date.specs.Forms.{filledZone}
-use Rattle.records.specs.declared.DatumTold.{DatumTold}
-use Rattle.records.specs.declared.Sentence.{Sentence}
-use Rattle.records.specs.declared.Sentence.the-variants as S
+use Rattle.kind_pir_datum.specs.declared.reply.DatumTold.{DatumTold}
 use Rattle.kind_pir_datum.specs.Command.{datumMost}
+use Rattle.numbers.specs.Layout.{Layout, makerNumbers}
+use Rattle.numbers.specs.Told.{Answer, gives, refuses}
+use lib.IntN.{ℤ}
 
 abbrev pub Readings : Type 0
 Readings = Got × GotInt
@@ -30,13 +31,23 @@ pirtaRow =
     (λ r. (r .datum, r .zone))
     pirtaParts
 
--- What the contracts cite.
-abbrev pub pirtaFrom : Got → GotInt → Sentence
-pirtaFrom datum zone =
-    answerBy S.Refused pirtaRow S.Ta (datum, zone)
+-- The record as numbers, as docs/LAYOUT.md lays them out, in the order of its fields; and back.
+unfoldable pub pirtaLayout : Layout DatumTold
+pirtaLayout = pirtaRow .layout
 
-abbrev pub pirtaOf : ℕ → (ℕ → List ℕ) → Sentence
-pirtaOf = readBy S.Refused pirtaRow S.Ta
+abbrev pub pirtaNumbers : DatumTold → List ℤ
+pirtaNumbers = makerNumbers pirtaLayout
+
+abbrev pub pirtaAt : List ℤ → DatumTold
+pirtaAt n = pirtaLayout .at n 0
+
+-- What the contracts cite.
+abbrev pub pirtaFrom : List ℤ → Got → GotInt → Answer
+pirtaFrom out datum zone =
+    answerBy (refuses out) pirtaRow (λ r. gives out 13 (pirtaNumbers r)) (datum, zone)
+
+abbrev pub pirtaTold : List ℤ → ℕ → (ℕ → List ℕ) → Answer
+pirtaTold out = readBy (refuses out) pirtaRow (λ r. gives out 13 (pirtaNumbers r))
 
 -- The first value outside its range, by the number of its field, or 0; the fields; the body.
 abbrev pub pirtaWrong : DatumTold → ℕ

@@ -2,43 +2,70 @@
 use form::got::Got;
 use form::got::GotInt;
 use frame::Written;
-use records::DatumTold;
-use records::Sentence;
+use numbers::Told;
 ghost use mathlib.Core.Path.{_≡_};
 ghost use Rattle.put.specs.Wrote.{held, Puts, PutsFields};
 ghost use Rattle.fields.specs.Places.{fieldsBy};
 ghost use Rattle.frame.specs.Written.{faultAt, Writes};
-ghost use Rattle.kind_pir_datum.specs.Reply.{pirtaBody, pirtaFields, pirtaFrom, pirtaOf, pirtaWrong};
+ghost use Rattle.numbers.specs.Told.{gives, Tells};
+ghost use Rattle.kind_pir_datum.specs.Reply.{pirtaAt, pirtaBody, pirtaFields, pirtaFrom, pirtaNumbers, pirtaTold, pirtaWrong};
 
-// The record, or the first wrong field.
-fn pirta_from(datum: Got, zone: GotInt) -> Sentence
-    ensures { λ r. ⌜ r ≡ pirtaFrom datum zone ⌝ }
+pub struct DatumTold {
+    pub datum: u32,
+    pub zone: i32,
+}
+
+// Lays the numbers of a record, in the order of docs/LAYOUT.md.
+fn lay(out: &mut [i64], r: DatumTold) -> Told
+    ensures { λ b. ⌜ Tells (gives (now (out .entry)) 13 (pirtaNumbers r)) b (now (out .exit)) ⌝ }
+{
+    let v = [r.datum as i64, r.zone as i64];
+    numbers::tell(out, 13, &v)
+}
+
+// The record that numbers say; a number past the end is taken as 0.
+pub fn at(n: &[i64]) -> DatumTold
+    ensures { λ r. ⌜ r ≡ pirtaAt (now (n .entry)) ⌝ }
+{
+    DatumTold {
+        datum: numbers::whole_at(n, 0),
+        zone: numbers::signed_at(n, 1),
+    }
+}
+
+// Lays the record, or refuses the first wrong field.
+fn pirta_from(out: &mut [i64], datum: Got, zone: GotInt) -> Told
+    ensures { λ r. ⌜ Tells (pirtaFrom (now (out .entry)) datum zone) r (now (out .exit)) ⌝ }
 {
     let zone_wrong = form::keep::needed_int(true, zone);
     let w2 = form::keep::near(1, zone_wrong, 0);
     let w1 = form::keep::near(0, datum.wrong, w2);
     if w1 != 0 {
-        return Sentence::Refused(5, w1);
+        return numbers::refuse(5, w1);
     }
-    Sentence::Ta(DatumTold {
-        datum: datum.value,
-        zone: zone.value,
-    })
+    lay(
+        out,
+        DatumTold {
+            datum: datum.value,
+            zone: zone.value,
+        },
+    )
 }
 
-// The record of the fields of a body `s`, `n` of them after the address, by their ends `p`. Refused: 4
-// where there are not so many as the kind has, 5 at the first wrong field.
+// Reads the fields of a body `s`, `n` of them after the address, by their ends `p`, and lays the numbers of the record at
+// the start of `out`. Refused: 4 where there are not so many fields as the kind has, 5 at the first wrong field, 8 where
+// `out` is shorter than the record; then `out` is left.
 //
 //     $PIRTA,0,0300*6D
-pub fn read(n: usize, s: &[u8], p: &[usize]) -> Sentence
-    ensures { λ r. ⌜ r ≡ pirtaOf n (fieldsBy (now (p .entry)) (now (s .entry))) ⌝ }
+pub fn read(out: &mut [i64], n: usize, s: &[u8], p: &[usize]) -> Told
+    ensures { λ r. ⌜ Tells (pirtaTold (now (out .entry)) n (fieldsBy (now (p .entry)) (now (s .entry)))) r (now (out .exit)) ⌝ }
 {
     if n != 2 {
-        return Sentence::Refused(4, 0);
+        return numbers::refuse(4, 0);
     }
     let datum = form_number::fixed::exact_in(s, p, 1, 1, 0, 4);
     let zone = form_date::zones::four_in(s, p, 2);
-    pirta_from(datum, zone)
+    pirta_from(out, datum, zone)
 }
 
 // The first value outside its range, by the number of its field, or 0.

@@ -8,9 +8,10 @@ use Rattle.form.specs.Row.{_▷_, made, one, Row}
 use Rattle.form.specs.declared.Maybe.{Maybe}
 use Rattle.form.specs.declared.got.Got.{Got}
 use Rattle.form_mask.specs.Forms.{satelliteMask}
-use Rattle.records.specs.declared.MasksAsked.{MasksAsked}
-use Rattle.records.specs.declared.Sentence.{Sentence}
-use Rattle.records.specs.declared.Sentence.the-variants as S
+use Rattle.kind_pir_masks.specs.declared.command.MasksAsked.{MasksAsked}
+use Rattle.numbers.specs.Layout.{Layout, makerNumbers}
+use Rattle.numbers.specs.Told.{Answer, gives, refuses}
+use lib.IntN.{ℤ}
 
 -- The masks with all satellites.
 abbrev pub gpsMost : ℕ
@@ -35,13 +36,23 @@ pirsrRow =
     (λ r. (r .gps, (r .glonass, tt)))
     pirsrParts
 
--- What the contracts cite.
-abbrev pub pirsrFrom : Got → Got → ℕ → Sentence
-pirsrFrom gps glonass third =
-    answerBy S.Refused pirsrRow S.Sr (gps, (glonass, third))
+-- The record as numbers, as docs/LAYOUT.md lays them out, in the order of its fields; and back.
+unfoldable pub pirsrLayout : Layout MasksAsked
+pirsrLayout = pirsrRow .layout
 
-abbrev pub pirsrOf : ℕ → (ℕ → List ℕ) → Sentence
-pirsrOf = readBy S.Refused pirsrRow S.Sr
+abbrev pub pirsrNumbers : MasksAsked → List ℤ
+pirsrNumbers = makerNumbers pirsrLayout
+
+abbrev pub pirsrAt : List ℤ → MasksAsked
+pirsrAt n = pirsrLayout .at n 0
+
+-- What the contracts cite.
+abbrev pub pirsrFrom : List ℤ → Got → Got → ℕ → Answer
+pirsrFrom out gps glonass third =
+    answerBy (refuses out) pirsrRow (λ r. gives out 10 (pirsrNumbers r)) (gps, (glonass, third))
+
+abbrev pub pirsrTold : List ℤ → ℕ → (ℕ → List ℕ) → Answer
+pirsrTold out = readBy (refuses out) pirsrRow (λ r. gives out 10 (pirsrNumbers r))
 
 -- The first value outside its range, by the number of its field, or 0; the fields; the body.
 abbrev pub pirsrWrong : MasksAsked → ℕ

@@ -7,10 +7,11 @@ use Rattle.form.specs.Kind.{answerBy, faultBy, fieldsFor, readBy}
 use Rattle.form.specs.Row.{_▷_, made, one, Row}
 use Rattle.form.specs.declared.got.Got.{Got}
 use Rattle.form_mask.specs.Forms.{wholeMask}
-use Rattle.records.specs.declared.MasksTold.{MasksTold}
-use Rattle.records.specs.declared.Sentence.{Sentence}
-use Rattle.records.specs.declared.Sentence.the-variants as S
+use Rattle.kind_pir_masks.specs.declared.reply.MasksTold.{MasksTold}
 use Rattle.kind_pir_masks.specs.Command.{glonassMost, gpsMost}
+use Rattle.numbers.specs.Layout.{Layout, makerNumbers}
+use Rattle.numbers.specs.Told.{Answer, gives, refuses}
+use lib.IntN.{ℤ}
 
 abbrev pub Readings : Type 0
 Readings = Got × (Got × ℕ)
@@ -28,13 +29,23 @@ pirsaRow =
     (λ r. (r .gps, (r .glonass, tt)))
     pirsaParts
 
--- What the contracts cite.
-abbrev pub pirsaFrom : Got → Got → ℕ → Sentence
-pirsaFrom gps glonass third =
-    answerBy S.Refused pirsaRow S.Sa (gps, (glonass, third))
+-- The record as numbers, as docs/LAYOUT.md lays them out, in the order of its fields; and back.
+unfoldable pub pirsaLayout : Layout MasksTold
+pirsaLayout = pirsaRow .layout
 
-abbrev pub pirsaOf : ℕ → (ℕ → List ℕ) → Sentence
-pirsaOf = readBy S.Refused pirsaRow S.Sa
+abbrev pub pirsaNumbers : MasksTold → List ℤ
+pirsaNumbers = makerNumbers pirsaLayout
+
+abbrev pub pirsaAt : List ℤ → MasksTold
+pirsaAt n = pirsaLayout .at n 0
+
+-- What the contracts cite.
+abbrev pub pirsaFrom : List ℤ → Got → Got → ℕ → Answer
+pirsaFrom out gps glonass third =
+    answerBy (refuses out) pirsaRow (λ r. gives out 14 (pirsaNumbers r)) (gps, (glonass, third))
+
+abbrev pub pirsaTold : List ℤ → ℕ → (ℕ → List ℕ) → Answer
+pirsaTold out = readBy (refuses out) pirsaRow (λ r. gives out 14 (pirsaNumbers r))
 
 -- The first value outside its range, by the number of its field, or 0; the fields; the body.
 abbrev pub pirsaWrong : MasksTold → ℕ

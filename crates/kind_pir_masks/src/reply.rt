@@ -1,44 +1,71 @@
 // PIRSA: the GPS and GLONASS masks.
 use form::got::Got;
 use frame::Written;
-use records::MasksTold;
-use records::Sentence;
+use numbers::Told;
 ghost use mathlib.Core.Path.{_≡_};
 ghost use Rattle.put.specs.Wrote.{held, Puts, PutsFields};
 ghost use Rattle.fields.specs.Places.{fieldsBy};
 ghost use Rattle.frame.specs.Written.{faultAt, Writes};
-ghost use Rattle.kind_pir_masks.specs.Reply.{pirsaBody, pirsaFields, pirsaFrom, pirsaOf, pirsaWrong};
+ghost use Rattle.numbers.specs.Told.{gives, Tells};
+ghost use Rattle.kind_pir_masks.specs.Reply.{pirsaAt, pirsaBody, pirsaFields, pirsaFrom, pirsaNumbers, pirsaTold, pirsaWrong};
 
-// The record, or the first wrong field.
-fn pirsa_from(gps: Got, glonass: Got, third: u8) -> Sentence
-    ensures { λ r. ⌜ r ≡ pirsaFrom gps glonass third ⌝ }
+pub struct MasksTold {
+    pub gps: u32,
+    pub glonass: u32,
+}
+
+// Lays the numbers of a record, in the order of docs/LAYOUT.md.
+fn lay(out: &mut [i64], r: MasksTold) -> Told
+    ensures { λ b. ⌜ Tells (gives (now (out .entry)) 14 (pirsaNumbers r)) b (now (out .exit)) ⌝ }
+{
+    let v = [r.gps as i64, r.glonass as i64];
+    numbers::tell(out, 14, &v)
+}
+
+// The record that numbers say; a number past the end is taken as 0.
+pub fn at(n: &[i64]) -> MasksTold
+    ensures { λ r. ⌜ r ≡ pirsaAt (now (n .entry)) ⌝ }
+{
+    MasksTold {
+        gps: numbers::whole_at(n, 0),
+        glonass: numbers::whole_at(n, 1),
+    }
+}
+
+// Lays the record, or refuses the first wrong field.
+fn pirsa_from(out: &mut [i64], gps: Got, glonass: Got, third: u8) -> Told
+    ensures { λ r. ⌜ Tells (pirsaFrom (now (out .entry)) gps glonass third) r (now (out .exit)) ⌝ }
 {
     let w3 = form::keep::near(2, third, 0);
     let w2 = form::keep::near(1, glonass.wrong, w3);
     let w1 = form::keep::near(0, gps.wrong, w2);
     if w1 != 0 {
-        return Sentence::Refused(5, w1);
+        return numbers::refuse(5, w1);
     }
-    Sentence::Sa(MasksTold {
-        gps: gps.value,
-        glonass: glonass.value,
-    })
+    lay(
+        out,
+        MasksTold {
+            gps: gps.value,
+            glonass: glonass.value,
+        },
+    )
 }
 
-// The record of the fields of a body `s`, `n` of them after the address, by their ends `p`. Refused: 4
-// where there are not so many as the kind has, 5 at the first wrong field.
+// Reads the fields of a body `s`, `n` of them after the address, by their ends `p`, and lays the numbers of the record at
+// the start of `out`. Refused: 4 where there are not so many fields as the kind has, 5 at the first wrong field, 8 where
+// `out` is shorter than the record; then `out` is left.
 //
 //     $PIRSA,7FFEFFFF,FFFFFE,*04
-pub fn read(n: usize, s: &[u8], p: &[usize]) -> Sentence
-    ensures { λ r. ⌜ r ≡ pirsaOf n (fieldsBy (now (p .entry)) (now (s .entry))) ⌝ }
+pub fn read(out: &mut [i64], n: usize, s: &[u8], p: &[usize]) -> Told
+    ensures { λ r. ⌜ Tells (pirsaTold (now (out .entry)) n (fieldsBy (now (p .entry)) (now (s .entry)))) r (now (out .exit)) ⌝ }
 {
     if n != 3 {
-        return Sentence::Refused(4, 0);
+        return numbers::refuse(4, 0);
     }
     let gps = form_mask::read::whole_in(s, p, 1, 8);
     let glonass = form_mask::read::whole_in(s, p, 2, 6);
     let third = form::unit::empty_in(s, p, 3);
-    pirsa_from(gps, glonass, third)
+    pirsa_from(out, gps, glonass, third)
 }
 
 // The first value outside its range, by the number of its field, or 0.

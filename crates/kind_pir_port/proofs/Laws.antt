@@ -19,6 +19,8 @@ use Rattle.form_mask.proofs.Laws.{lawful-portMask, lawful-rate}
 use Rattle.form_mask.proofs.Place.{prefix-portMask, prefix-rate, told-portMask, told-rate}
 use Rattle.kind_pir_port.specs.Command.{pirprParts, pirprRow, setting}
 use Rattle.kind_pir_port.specs.Reply.{pirpaParts, pirpaRow}
+use Rattle.numbers.specs.Layout.{_then_}
+use Rattle.form.specs.Numbers.{maybeLayout}
 
 lawful-setting : (key : Bool) → Lawful (setting key)
 lawful-setting key =
@@ -31,7 +33,7 @@ unfolding pirprRow
 lawful-pirpr =
     lawful-made _ _ pirprParts (λ v. refl) (λ r. refl)
     (lawful-one (lawful-fixed 1 0 1 (lit≤ tt) (lit≤ tt) (lit< tt))
-    ⊳ lawful-depending 2 7 (λ g. g .there) (λ m. m .there) (one rate) setting (λ k. refl) (λ k. lit≤ tt) (λ g. refl)
+    ⊳ lawful-depending 2 7 (maybeLayout then maybeLayout) (λ g. g .there) (λ m. m .there) (one rate) setting (λ k. refl) (λ k. lit≤ tt) (λ g. refl)
     (lawful-one lawful-rate) lawful-setting)
 
 pub lawful-pirpa : Lawful pirpaRow
@@ -54,7 +56,7 @@ unfolding pirprRow
 prefix-pirpr =
     prefix-made _ _ pirprParts (λ v. refl)
     (prefix-one (prefix-fixed 1 0 1)
-    ⊩ prefix-depending 2 7 (λ g. g .there) (λ m. m .there) (one rate) setting (λ k. refl) (prefix-one prefix-rate) prefix-setting)
+    ⊩ prefix-depending 2 7 (maybeLayout then maybeLayout) (λ g. g .there) (λ m. m .there) (one rate) setting (λ k. refl) (prefix-one prefix-rate) prefix-setting)
 
 pub prefix-pirpa : Prefix pirpaRow
 unfolding pirpaRow

@@ -11,9 +11,11 @@ use Rattle.form.specs.declared.Maybe.{Maybe}
 use Rattle.form.specs.declared.got.Got.{Got}
 use Rattle.form_number.specs.Forms.{fixed}
 use Rattle.form_mask.specs.Forms.{portMask, rate}
-use Rattle.records.specs.declared.PortAsked.{PortAsked}
-use Rattle.records.specs.declared.Sentence.{Sentence}
-use Rattle.records.specs.declared.Sentence.the-variants as S
+use Rattle.kind_pir_port.specs.declared.command.PortAsked.{PortAsked}
+use Rattle.numbers.specs.Layout.{_then_, Layout, makerNumbers}
+use Rattle.form.specs.Numbers.{maybeLayout}
+use Rattle.numbers.specs.Told.{Answer, gives, refuses}
+use lib.IntN.{ℤ}
 
 -- The last port, and the last protocol.
 abbrev pub portMost : ℕ
@@ -33,7 +35,7 @@ abbrev pub setting : Bool → Row (Got × Got) (Maybe × Maybe)
 setting key = one (needed (fixed 1 0 protocolMost) key) ▷ one (needed portMask key)
 
 abbrev pub pirprParts : Row Readings Values
-pirprParts = one (fixed 1 0 portMost) ▷ depending 2 7 (λ g. g .there) (λ m. m .there) (one rate) setting
+pirprParts = one (fixed 1 0 portMost) ▷ depending 2 7 (maybeLayout then maybeLayout) (λ g. g .there) (λ m. m .there) (one rate) setting
 
 unfoldable pub pirprRow : Row Readings PortAsked
 pirprRow =
@@ -42,13 +44,23 @@ pirprRow =
     (λ r. (r .port, (r .rate, (r .protocol, r .mask))))
     pirprParts
 
--- What the contracts cite.
-abbrev pub pirprFrom : Got → Got → Got → Got → Sentence
-pirprFrom port rate protocol mask =
-    answerBy S.Refused pirprRow S.Pr (port, (rate, (protocol, mask)))
+-- The record as numbers, as docs/LAYOUT.md lays them out, in the order of its fields; and back.
+unfoldable pub pirprLayout : Layout PortAsked
+pirprLayout = pirprRow .layout
 
-abbrev pub pirprOf : ℕ → (ℕ → List ℕ) → Sentence
-pirprOf = readBy S.Refused pirprRow S.Pr
+abbrev pub pirprNumbers : PortAsked → List ℤ
+pirprNumbers = makerNumbers pirprLayout
+
+abbrev pub pirprAt : List ℤ → PortAsked
+pirprAt n = pirprLayout .at n 0
+
+-- What the contracts cite.
+abbrev pub pirprFrom : List ℤ → Got → Got → Got → Got → Answer
+pirprFrom out port rate protocol mask =
+    answerBy (refuses out) pirprRow (λ r. gives out 8 (pirprNumbers r)) (port, (rate, (protocol, mask)))
+
+abbrev pub pirprTold : List ℤ → ℕ → (ℕ → List ℕ) → Answer
+pirprTold out = readBy (refuses out) pirprRow (λ r. gives out 8 (pirprNumbers r))
 
 -- The first value outside its range, by the number of its field, or 0; the fields; the body.
 abbrev pub pirprWrong : PortAsked → ℕ

@@ -8,10 +8,11 @@ use Rattle.form.specs.Row.{_▷_, made, one, Row}
 use Rattle.form.specs.declared.got.Got.{Got}
 use Rattle.form_number.specs.Forms.{exact}
 use Rattle.form_mask.specs.Forms.{portMask, rate}
-use Rattle.records.specs.declared.PortTold.{PortTold}
-use Rattle.records.specs.declared.Sentence.{Sentence}
-use Rattle.records.specs.declared.Sentence.the-variants as S
+use Rattle.kind_pir_port.specs.declared.reply.PortTold.{PortTold}
 use Rattle.kind_pir_port.specs.Command.{portMost, protocolMost}
+use Rattle.numbers.specs.Layout.{Layout, makerNumbers}
+use Rattle.numbers.specs.Told.{Answer, gives, refuses}
+use lib.IntN.{ℤ}
 
 abbrev pub Readings : Type 0
 Readings = Got × (Got × (Got × Got))
@@ -29,13 +30,23 @@ pirpaRow =
     (λ r. (r .port, (r .rate, (r .protocol, r .mask))))
     pirpaParts
 
--- What the contracts cite.
-abbrev pub pirpaFrom : Got → Got → Got → Got → Sentence
-pirpaFrom port rate protocol mask =
-    answerBy S.Refused pirpaRow S.Pa (port, (rate, (protocol, mask)))
+-- The record as numbers, as docs/LAYOUT.md lays them out, in the order of its fields; and back.
+unfoldable pub pirpaLayout : Layout PortTold
+pirpaLayout = pirpaRow .layout
 
-abbrev pub pirpaOf : ℕ → (ℕ → List ℕ) → Sentence
-pirpaOf = readBy S.Refused pirpaRow S.Pa
+abbrev pub pirpaNumbers : PortTold → List ℤ
+pirpaNumbers = makerNumbers pirpaLayout
+
+abbrev pub pirpaAt : List ℤ → PortTold
+pirpaAt n = pirpaLayout .at n 0
+
+-- What the contracts cite.
+abbrev pub pirpaFrom : List ℤ → Got → Got → Got → Got → Answer
+pirpaFrom out port rate protocol mask =
+    answerBy (refuses out) pirpaRow (λ r. gives out 12 (pirpaNumbers r)) (port, (rate, (protocol, mask)))
+
+abbrev pub pirpaTold : List ℤ → ℕ → (ℕ → List ℕ) → Answer
+pirpaTold out = readBy (refuses out) pirpaRow (λ r. gives out 12 (pirpaNumbers r))
 
 -- The first value outside its range, by the number of its field, or 0; the fields; the body.
 abbrev pub pirpaWrong : PortTold → ℕ

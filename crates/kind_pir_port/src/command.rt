@@ -1,17 +1,55 @@
 // PIRPR: a port, its rate, protocol and mask; without a rate a question.
+use form::Maybe;
 use form::got::Got;
 use frame::Written;
-use records::PortAsked;
-use records::Sentence;
+use numbers::Told;
 ghost use mathlib.Core.Path.{_≡_};
 ghost use Rattle.put.specs.Wrote.{held, Puts, PutsFields};
 ghost use Rattle.fields.specs.Places.{fieldsBy};
 ghost use Rattle.frame.specs.Written.{faultAt, Writes};
-ghost use Rattle.kind_pir_port.specs.Command.{pirprBody, pirprFields, pirprFrom, pirprOf, pirprWrong};
+ghost use Rattle.numbers.specs.Told.{gives, Tells};
+ghost use Rattle.kind_pir_port.specs.Command.{pirprAt, pirprBody, pirprFields, pirprFrom, pirprNumbers, pirprTold, pirprWrong};
 
-// The record, or the first wrong field.
-fn pirpr_from(port: Got, rate: Got, protocol: Got, mask: Got) -> Sentence
-    ensures { λ r. ⌜ r ≡ pirprFrom port rate protocol mask ⌝ }
+// A port's settings to set, or, where the rate is missing, a question.
+pub struct PortAsked {
+    pub port: Maybe,
+    pub rate: Maybe,
+    pub protocol: Maybe,
+    pub mask: Maybe,
+}
+
+// Lays the numbers of a record, in the order of docs/LAYOUT.md.
+fn lay(out: &mut [i64], r: PortAsked) -> Told
+    ensures { λ b. ⌜ Tells (gives (now (out .entry)) 8 (pirprNumbers r)) b (now (out .exit)) ⌝ }
+{
+    let v = [
+        r.port.there as i64,
+        r.port.value as i64,
+        r.rate.there as i64,
+        r.rate.value as i64,
+        r.protocol.there as i64,
+        r.protocol.value as i64,
+        r.mask.there as i64,
+        r.mask.value as i64,
+    ];
+    numbers::tell(out, 8, &v)
+}
+
+// The record that numbers say; a number past the end is taken as 0.
+pub fn at(n: &[i64]) -> PortAsked
+    ensures { λ r. ⌜ r ≡ pirprAt (now (n .entry)) ⌝ }
+{
+    PortAsked {
+        port: form::from_numbers::maybe(n, 0),
+        rate: form::from_numbers::maybe(n, 2),
+        protocol: form::from_numbers::maybe(n, 4),
+        mask: form::from_numbers::maybe(n, 6),
+    }
+}
+
+// Lays the record, or refuses the first wrong field.
+fn pirpr_from(out: &mut [i64], port: Got, rate: Got, protocol: Got, mask: Got) -> Told
+    ensures { λ r. ⌜ Tells (pirprFrom (now (out .entry)) port rate protocol mask) r (now (out .exit)) ⌝ }
 {
     let mask_wrong = form::keep::needed(rate.there, mask);
     let w4 = form::keep::near(3, mask_wrong, 0);
@@ -20,31 +58,35 @@ fn pirpr_from(port: Got, rate: Got, protocol: Got, mask: Got) -> Sentence
     let w2 = form::keep::near(1, rate.wrong, w3);
     let w1 = form::keep::near(0, port.wrong, w2);
     if w1 != 0 {
-        return Sentence::Refused(5, w1);
+        return numbers::refuse(5, w1);
     }
-    Sentence::Pr(PortAsked {
-        port: form::keep::kept(port),
-        rate: form::keep::kept(rate),
-        protocol: form::keep::kept_if(rate.there, protocol),
-        mask: form::keep::kept_if(rate.there, mask),
-    })
+    lay(
+        out,
+        PortAsked {
+            port: form::keep::kept(port),
+            rate: form::keep::kept(rate),
+            protocol: form::keep::kept_if(rate.there, protocol),
+            mask: form::keep::kept_if(rate.there, mask),
+        },
+    )
 }
 
-// The record of the fields of a body `s`, `n` of them after the address, by their ends `p`. Refused: 4
-// where there are not so many as the kind has, 5 at the first wrong field.
+// Reads the fields of a body `s`, `n` of them after the address, by their ends `p`, and lays the numbers of the record at
+// the start of `out`. Refused: 4 where there are not so many fields as the kind has, 5 at the first wrong field, 8 where
+// `out` is shorter than the record; then `out` is left.
 //
 //     $PIRPR,0,4800,4,007F*30
-pub fn read(n: usize, s: &[u8], p: &[usize]) -> Sentence
-    ensures { λ r. ⌜ r ≡ pirprOf n (fieldsBy (now (p .entry)) (now (s .entry))) ⌝ }
+pub fn read(out: &mut [i64], n: usize, s: &[u8], p: &[usize]) -> Told
+    ensures { λ r. ⌜ Tells (pirprTold (now (out .entry)) n (fieldsBy (now (p .entry)) (now (s .entry)))) r (now (out .exit)) ⌝ }
 {
     if n != 4 {
-        return Sentence::Refused(4, 0);
+        return numbers::refuse(4, 0);
     }
     let port = form_number::fixed::fixed_in(s, p, 1, 1, 0, 1);
     let rate = form_mask::plain::rate_in(s, p, 2);
     let protocol = form_number::fixed::fixed_in(s, p, 3, 1, 0, 4);
     let mask = form_mask::read::port_mask_in(s, p, 4);
-    pirpr_from(port, rate, protocol, mask)
+    pirpr_from(out, port, rate, protocol, mask)
 }
 
 // The first value outside its range, by the number of its field, or 0.

@@ -1,17 +1,49 @@
 // PIRPA: a port's rate, protocol and mask.
 use form::got::Got;
 use frame::Written;
-use records::PortTold;
-use records::Sentence;
+use numbers::Told;
 ghost use mathlib.Core.Path.{_≡_};
 ghost use Rattle.put.specs.Wrote.{held, Puts, PutsFields};
 ghost use Rattle.fields.specs.Places.{fieldsBy};
 ghost use Rattle.frame.specs.Written.{faultAt, Writes};
-ghost use Rattle.kind_pir_port.specs.Reply.{pirpaBody, pirpaFields, pirpaFrom, pirpaOf, pirpaWrong};
+ghost use Rattle.numbers.specs.Told.{gives, Tells};
+ghost use Rattle.kind_pir_port.specs.Reply.{pirpaAt, pirpaBody, pirpaFields, pirpaFrom, pirpaNumbers, pirpaTold, pirpaWrong};
 
-// The record, or the first wrong field.
-fn pirpa_from(port: Got, rate: Got, protocol: Got, mask: Got) -> Sentence
-    ensures { λ r. ⌜ r ≡ pirpaFrom port rate protocol mask ⌝ }
+pub struct PortTold {
+    pub port: u32,
+    pub rate: u32,
+    pub protocol: u32,
+    pub mask: u32,
+}
+
+// Lays the numbers of a record, in the order of docs/LAYOUT.md.
+fn lay(out: &mut [i64], r: PortTold) -> Told
+    ensures { λ b. ⌜ Tells (gives (now (out .entry)) 12 (pirpaNumbers r)) b (now (out .exit)) ⌝ }
+{
+    let v = [
+        r.port as i64,
+        r.rate as i64,
+        r.protocol as i64,
+        r.mask as i64,
+    ];
+    numbers::tell(out, 12, &v)
+}
+
+// The record that numbers say; a number past the end is taken as 0.
+pub fn at(n: &[i64]) -> PortTold
+    ensures { λ r. ⌜ r ≡ pirpaAt (now (n .entry)) ⌝ }
+{
+    PortTold {
+        port: numbers::whole_at(n, 0),
+        rate: numbers::whole_at(n, 1),
+        protocol: numbers::whole_at(n, 2),
+        mask: numbers::whole_at(n, 3),
+    }
+}
+
+// Lays the record, or refuses the first wrong field.
+fn pirpa_from(out: &mut [i64], port: Got, rate: Got, protocol: Got, mask: Got) -> Told
+    ensures { λ r. ⌜ Tells (pirpaFrom (now (out .entry)) port rate protocol mask) r (now (out .exit)) ⌝ }
 {
     let mask_wrong = form::keep::needed(true, mask);
     let w4 = form::keep::near(3, mask_wrong, 0);
@@ -20,31 +52,35 @@ fn pirpa_from(port: Got, rate: Got, protocol: Got, mask: Got) -> Sentence
     let w2 = form::keep::near(1, rate_wrong, w3);
     let w1 = form::keep::near(0, port.wrong, w2);
     if w1 != 0 {
-        return Sentence::Refused(5, w1);
+        return numbers::refuse(5, w1);
     }
-    Sentence::Pa(PortTold {
-        port: port.value,
-        rate: rate.value,
-        protocol: protocol.value,
-        mask: mask.value,
-    })
+    lay(
+        out,
+        PortTold {
+            port: port.value,
+            rate: rate.value,
+            protocol: protocol.value,
+            mask: mask.value,
+        },
+    )
 }
 
-// The record of the fields of a body `s`, `n` of them after the address, by their ends `p`. Refused: 4
-// where there are not so many as the kind has, 5 at the first wrong field.
+// Reads the fields of a body `s`, `n` of them after the address, by their ends `p`, and lays the numbers of the record at
+// the start of `out`. Refused: 4 where there are not so many fields as the kind has, 5 at the first wrong field, 8 where
+// `out` is shorter than the record; then `out` is left.
 //
 //     $PIRPA,0,4800,4,007F*23
-pub fn read(n: usize, s: &[u8], p: &[usize]) -> Sentence
-    ensures { λ r. ⌜ r ≡ pirpaOf n (fieldsBy (now (p .entry)) (now (s .entry))) ⌝ }
+pub fn read(out: &mut [i64], n: usize, s: &[u8], p: &[usize]) -> Told
+    ensures { λ r. ⌜ Tells (pirpaTold (now (out .entry)) n (fieldsBy (now (p .entry)) (now (s .entry)))) r (now (out .exit)) ⌝ }
 {
     if n != 4 {
-        return Sentence::Refused(4, 0);
+        return numbers::refuse(4, 0);
     }
     let port = form_number::fixed::exact_in(s, p, 1, 1, 0, 1);
     let rate = form_mask::plain::rate_in(s, p, 2);
     let protocol = form_number::fixed::exact_in(s, p, 3, 1, 0, 4);
     let mask = form_mask::read::port_mask_in(s, p, 4);
-    pirpa_from(port, rate, protocol, mask)
+    pirpa_from(out, port, rate, protocol, mask)
 }
 
 // The first value outside its range, by the number of its field, or 0.

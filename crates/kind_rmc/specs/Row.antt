@@ -20,9 +20,10 @@ use Rattle.form_date.specs.declared.dates.GotDate.{GotDate}
 use Rattle.form_position.specs.Forms.{place, variation}
 use Rattle.form_position.specs.declared.Place.{Place}
 use Rattle.form_position.specs.declared.Position.{Position}
-use Rattle.records.specs.declared.Rmc.{Rmc}
-use Rattle.records.specs.declared.Sentence.{Sentence}
-use Rattle.records.specs.declared.Sentence.the-variants as S
+use Rattle.kind_rmc.specs.declared.Rmc.{Rmc}
+use Rattle.numbers.specs.Layout.{Layout, standard, standardNumbers}
+use Rattle.numbers.specs.Told.{Answer, gives, refuses}
+use lib.IntN.{ℤ}
 
 abbrev pub Readings : Type 0
 Readings = Got × (Got × (Position × (Got × (Got × (GotDate × (GotInt × Got))))))
@@ -49,13 +50,23 @@ rmcRow =
     (λ r. (r .time, (r .status, (r .place, (r .speed, (r .course, (r .date, (r .variation, r .mode))))))))
     rmcParts
 
--- What the contracts cite.
-abbrev pub rmcFrom : Talker → Got → Got → Position → Got → Got → GotDate → GotInt → Got → Sentence
-rmcFrom t time status place speed course date variation mode =
-    answerBy S.Refused rmcRow (S.Rmc t) (time, (status, (place, (speed, (course, (date, (variation, mode)))))))
+-- The record as numbers, as docs/LAYOUT.md lays them out, in the order of its fields; and back.
+unfoldable pub rmcLayout : Layout Rmc
+rmcLayout = rmcRow .layout
 
-abbrev pub rmcOf : Talker → ℕ → (ℕ → List ℕ) → Sentence
-rmcOf t = readBy S.Refused rmcRow (S.Rmc t)
+abbrev pub rmcNumbers : Talker → Rmc → List ℤ
+rmcNumbers = standardNumbers rmcLayout
+
+abbrev pub rmcAt : List ℤ → Rmc
+rmcAt n = standard rmcLayout .at n 0 .1
+
+-- What the contracts cite.
+abbrev pub rmcFrom : List ℤ → Talker → Got → Got → Position → Got → Got → GotDate → GotInt → Got → Answer
+rmcFrom out t time status place speed course date variation mode =
+    answerBy (refuses out) rmcRow (λ r. gives out 5 (rmcNumbers t r)) (time, (status, (place, (speed, (course, (date, (variation, mode)))))))
+
+abbrev pub rmcTold : List ℤ → Talker → ℕ → (ℕ → List ℕ) → Answer
+rmcTold out t = readBy (refuses out) rmcRow (λ r. gives out 5 (rmcNumbers t r))
 
 -- The first value outside its range, by the number of its field, or 0; the fields; the body.
 abbrev pub rmcWrong : Rmc → ℕ

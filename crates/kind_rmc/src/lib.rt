@@ -1,20 +1,82 @@
 // RMC: time, status, position, speed in knots, course, date, variation and mode.
 use address::Talker;
+use form::Maybe;
 use form::got::Got;
 use form::got::GotInt;
+use form_date::Date;
 use form_date::dates::GotDate;
+use form_number::Knots;
+use form_number::Number;
+use form_number::Signed;
+use form_position::Place;
 use form_position::Position;
 use frame::Written;
-use records::Rmc;
-use records::Sentence;
+use numbers::Told;
 ghost use mathlib.Core.Path.{_≡_};
 ghost use Rattle.put.specs.Wrote.{held, Puts, PutsFields};
 ghost use Rattle.fields.specs.Places.{fieldsBy};
 ghost use Rattle.frame.specs.Written.{faultAt, Writes};
-ghost use Rattle.kind_rmc.specs.Row.{rmcBody, rmcFields, rmcFrom, rmcOf, rmcWrong};
+ghost use Rattle.numbers.specs.Told.{gives, Tells};
+ghost use Rattle.kind_rmc.specs.Row.{rmcAt, rmcBody, rmcFields, rmcFrom, rmcNumbers, rmcTold, rmcWrong};
 
-// The record, or the first wrong field.
+pub struct Rmc {
+    pub time: Maybe,
+    pub status: u32,
+    pub place: Place,
+    pub speed: Knots,
+    pub course: Number,
+    pub date: Date,
+    pub variation: Signed,
+    pub mode: u32,
+}
+
+// Lays the numbers of a record, in the order of docs/LAYOUT.md.
+fn lay(out: &mut [i64], t: Talker, r: Rmc) -> Told
+    ensures { λ b. ⌜ Tells (gives (now (out .entry)) 5 (rmcNumbers t r)) b (now (out .exit)) ⌝ }
+{
+    let talker = numbers::talker_number(t);
+    let v = [
+        talker as i64,
+        r.time.there as i64,
+        r.time.value as i64,
+        r.status as i64,
+        r.place.there as i64,
+        r.place.lat as i64,
+        r.place.lon as i64,
+        r.speed.there as i64,
+        r.speed.value as i64,
+        r.course.there as i64,
+        r.course.value as i64,
+        r.date.there as i64,
+        r.date.day as i64,
+        r.date.month as i64,
+        r.date.year as i64,
+        r.variation.there as i64,
+        r.variation.value as i64,
+        r.mode as i64,
+    ];
+    numbers::tell(out, 5, &v)
+}
+
+// The record that numbers say; a number past the end is taken as 0.
+pub fn at(n: &[i64]) -> Rmc
+    ensures { λ r. ⌜ r ≡ rmcAt (now (n .entry)) ⌝ }
+{
+    Rmc {
+        time: form::from_numbers::maybe(n, 1),
+        status: numbers::whole_at(n, 3),
+        place: form_position::from_numbers::place(n, 4),
+        speed: form_number::from_numbers::knots(n, 7),
+        course: form_number::from_numbers::number(n, 9),
+        date: form_date::from_numbers::date(n, 11),
+        variation: form_number::from_numbers::signed(n, 15),
+        mode: numbers::whole_at(n, 17),
+    }
+}
+
+// Lays the record, or refuses the first wrong field.
 fn rmc_from(
+    out: &mut [i64],
     t: Talker,
     time: Got,
     status: Got,
@@ -24,8 +86,8 @@ fn rmc_from(
     date: GotDate,
     variation: GotInt,
     mode: Got,
-) -> Sentence
-    ensures { λ r. ⌜ r ≡ rmcFrom t time status place speed course date variation mode ⌝ }
+) -> Told
+    ensures { λ r. ⌜ Tells (rmcFrom (now (out .entry)) t time status place speed course date variation mode) r (now (out .exit)) ⌝ }
 {
     let w12 = form::keep::near(11, mode.wrong, 0);
     let w10 = form::keep::near(9, variation.wrong, w12);
@@ -36,9 +98,10 @@ fn rmc_from(
     let w2 = form::keep::near(1, status.wrong, w3);
     let w1 = form::keep::near(0, time.wrong, w2);
     if w1 != 0 {
-        return Sentence::Refused(5, w1);
+        return numbers::refuse(5, w1);
     }
-    Sentence::Rmc(
+    lay(
+        out,
         t,
         Rmc {
             time: form::keep::kept(time),
@@ -53,15 +116,16 @@ fn rmc_from(
     )
 }
 
-// The record of the fields of a body `s`, `n` of them after the address, by their ends `p`. Refused: 4
-// where there are not so many as the kind has, 5 at the first wrong field.
+// Reads the fields of a body `s`, `n` of them after the address, by their ends `p`, and lays the numbers of the record at
+// the start of `out`. Refused: 4 where there are not so many fields as the kind has, 5 at the first wrong field, 8 where
+// `out` is shorter than the record; then `out` is left.
 //
 //     $GPRMC,075140.00,A,5550.6111,N,03732.2534,E,4.2,182.1,151126,10.5,E,A*0D
-pub fn read(t: Talker, n: usize, s: &[u8], p: &[usize]) -> Sentence
-    ensures { λ r. ⌜ r ≡ rmcOf t n (fieldsBy (now (p .entry)) (now (s .entry))) ⌝ }
+pub fn read(out: &mut [i64], t: Talker, n: usize, s: &[u8], p: &[usize]) -> Told
+    ensures { λ r. ⌜ Tells (rmcTold (now (out .entry)) t n (fieldsBy (now (p .entry)) (now (s .entry)))) r (now (out .exit)) ⌝ }
 {
     if n != 12 {
-        return Sentence::Refused(4, 0);
+        return numbers::refuse(4, 0);
     }
     let time = form_time::read::time_in(s, p, 1);
     let status = form_letter::read::letter_in(s, p, 2, b"AV");
@@ -71,7 +135,18 @@ pub fn read(t: Talker, n: usize, s: &[u8], p: &[usize]) -> Sentence
     let date = form_date::dates::six_in(s, p, 9);
     let variation = form_position::read::variation_in(s, p, 10, 11);
     let mode = form_letter::read::letter_in(s, p, 12, b"ADEMSN");
-    rmc_from(t, time, status, place, speed, course, date, variation, mode)
+    rmc_from(
+        out,
+        t,
+        time,
+        status,
+        place,
+        speed,
+        course,
+        date,
+        variation,
+        mode,
+    )
 }
 
 // The first value outside its range, by the number of its field, or 0.

@@ -11,9 +11,10 @@ use Rattle.form_number.specs.Forms.{kmhUnit, knotsUnit, magneticCourse, trueCou
 use Rattle.form_number.specs.declared.Kmh.{Kmh}
 use Rattle.form_number.specs.declared.Knots.{Knots}
 use Rattle.form_number.specs.declared.Number.{Number}
-use Rattle.records.specs.declared.Sentence.{Sentence}
-use Rattle.records.specs.declared.Sentence.the-variants as S
-use Rattle.records.specs.declared.Vtg.{Vtg}
+use Rattle.kind_vtg.specs.declared.Vtg.{Vtg}
+use Rattle.numbers.specs.Layout.{Layout, standard, standardNumbers}
+use Rattle.numbers.specs.Told.{Answer, gives, refuses}
+use lib.IntN.{ℤ}
 
 abbrev pub Readings : Type 0
 Readings = (Got × ℕ) × ((Got × ℕ) × ((Got × ℕ) × ((Got × ℕ) × Got)))
@@ -31,13 +32,23 @@ vtgRow =
     (λ r. (r .course, (r .magnetic, (r .knots, (r .kmh, r .mode)))))
     vtgParts
 
--- What the contracts cite.
-abbrev pub vtgFrom : Talker → Got → ℕ → Got → ℕ → Got → ℕ → Got → ℕ → Got → Sentence
-vtgFrom t course t2 magnetic m4 speed n6 metric k8 mode =
-    answerBy S.Refused vtgRow (S.Vtg t) ((course, t2), ((magnetic, m4), ((speed, n6), ((metric, k8), mode))))
+-- The record as numbers, as docs/LAYOUT.md lays them out, in the order of its fields; and back.
+unfoldable pub vtgLayout : Layout Vtg
+vtgLayout = vtgRow .layout
 
-abbrev pub vtgOf : Talker → ℕ → (ℕ → List ℕ) → Sentence
-vtgOf t = readBy S.Refused vtgRow (S.Vtg t)
+abbrev pub vtgNumbers : Talker → Vtg → List ℤ
+vtgNumbers = standardNumbers vtgLayout
+
+abbrev pub vtgAt : List ℤ → Vtg
+vtgAt n = standard vtgLayout .at n 0 .1
+
+-- What the contracts cite.
+abbrev pub vtgFrom : List ℤ → Talker → Got → ℕ → Got → ℕ → Got → ℕ → Got → ℕ → Got → Answer
+vtgFrom out t course t2 magnetic m4 speed n6 metric k8 mode =
+    answerBy (refuses out) vtgRow (λ r. gives out 6 (vtgNumbers t r)) ((course, t2), ((magnetic, m4), ((speed, n6), ((metric, k8), mode))))
+
+abbrev pub vtgTold : List ℤ → Talker → ℕ → (ℕ → List ℕ) → Answer
+vtgTold out t = readBy (refuses out) vtgRow (λ r. gives out 6 (vtgNumbers t r))
 
 -- The first value outside its range, by the number of its field, or 0; the fields; the body.
 abbrev pub vtgWrong : Vtg → ℕ

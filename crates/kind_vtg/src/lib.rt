@@ -1,17 +1,62 @@
 // VTG: true and magnetic course, speed in knots and in km/h, and mode.
 use address::Talker;
 use form::got::Got;
+use form_number::Kmh;
+use form_number::Knots;
+use form_number::Number;
 use frame::Written;
-use records::Sentence;
-use records::Vtg;
+use numbers::Told;
 ghost use mathlib.Core.Path.{_≡_};
 ghost use Rattle.put.specs.Wrote.{held, Puts, PutsFields};
 ghost use Rattle.fields.specs.Places.{fieldsBy};
 ghost use Rattle.frame.specs.Written.{faultAt, Writes};
-ghost use Rattle.kind_vtg.specs.Row.{vtgBody, vtgFields, vtgFrom, vtgOf, vtgWrong};
+ghost use Rattle.numbers.specs.Told.{gives, Tells};
+ghost use Rattle.kind_vtg.specs.Row.{vtgAt, vtgBody, vtgFields, vtgFrom, vtgNumbers, vtgTold, vtgWrong};
 
-// The record, or the first wrong field.
+pub struct Vtg {
+    pub course: Number,
+    pub magnetic: Number,
+    pub knots: Knots,
+    pub kmh: Kmh,
+    pub mode: u32,
+}
+
+// Lays the numbers of a record, in the order of docs/LAYOUT.md.
+fn lay(out: &mut [i64], t: Talker, r: Vtg) -> Told
+    ensures { λ b. ⌜ Tells (gives (now (out .entry)) 6 (vtgNumbers t r)) b (now (out .exit)) ⌝ }
+{
+    let talker = numbers::talker_number(t);
+    let v = [
+        talker as i64,
+        r.course.there as i64,
+        r.course.value as i64,
+        r.magnetic.there as i64,
+        r.magnetic.value as i64,
+        r.knots.there as i64,
+        r.knots.value as i64,
+        r.kmh.there as i64,
+        r.kmh.value as i64,
+        r.mode as i64,
+    ];
+    numbers::tell(out, 6, &v)
+}
+
+// The record that numbers say; a number past the end is taken as 0.
+pub fn at(n: &[i64]) -> Vtg
+    ensures { λ r. ⌜ r ≡ vtgAt (now (n .entry)) ⌝ }
+{
+    Vtg {
+        course: form_number::from_numbers::number(n, 1),
+        magnetic: form_number::from_numbers::number(n, 3),
+        knots: form_number::from_numbers::knots(n, 5),
+        kmh: form_number::from_numbers::kmh(n, 7),
+        mode: numbers::whole_at(n, 9),
+    }
+}
+
+// Lays the record, or refuses the first wrong field.
 fn vtg_from(
+    out: &mut [i64],
     t: Talker,
     course: Got,
     t2: u8,
@@ -22,8 +67,8 @@ fn vtg_from(
     metric: Got,
     k8: u8,
     mode: Got,
-) -> Sentence
-    ensures { λ r. ⌜ r ≡ vtgFrom t course t2 magnetic m4 speed n6 metric k8 mode ⌝ }
+) -> Told
+    ensures { λ r. ⌜ Tells (vtgFrom (now (out .entry)) t course t2 magnetic m4 speed n6 metric k8 mode) r (now (out .exit)) ⌝ }
 {
     let w9 = form::keep::near(8, mode.wrong, 0);
     let w8 = form::keep::near(7, k8, w9);
@@ -35,9 +80,10 @@ fn vtg_from(
     let w2 = form::keep::near(1, t2, w3);
     let w1 = form::keep::near(0, course.wrong, w2);
     if w1 != 0 {
-        return Sentence::Refused(5, w1);
+        return numbers::refuse(5, w1);
     }
-    Sentence::Vtg(
+    lay(
+        out,
         t,
         Vtg {
             course: form_number::keep::number(course),
@@ -49,15 +95,16 @@ fn vtg_from(
     )
 }
 
-// The record of the fields of a body `s`, `n` of them after the address, by their ends `p`. Refused: 4
-// where there are not so many as the kind has, 5 at the first wrong field.
+// Reads the fields of a body `s`, `n` of them after the address, by their ends `p`, and lays the numbers of the record at
+// the start of `out`. Refused: 4 where there are not so many fields as the kind has, 5 at the first wrong field, 8 where
+// `out` is shorter than the record; then `out` is left.
 //
 //     $GPVTG,182.1,T,171.6,M,4.2,N,7.8,K,A*21
-pub fn read(t: Talker, n: usize, s: &[u8], p: &[usize]) -> Sentence
-    ensures { λ r. ⌜ r ≡ vtgOf t n (fieldsBy (now (p .entry)) (now (s .entry))) ⌝ }
+pub fn read(out: &mut [i64], t: Talker, n: usize, s: &[u8], p: &[usize]) -> Told
+    ensures { λ r. ⌜ Tells (vtgTold (now (out .entry)) t n (fieldsBy (now (p .entry)) (now (s .entry)))) r (now (out .exit)) ⌝ }
 {
     if n != 9 {
-        return Sentence::Refused(4, 0);
+        return numbers::refuse(4, 0);
     }
     let course = form_number::read::below_in(s, p, 1, 360000);
     let t2 = form::unit::unit_in(s, p, 2, course.there, b'T');
@@ -68,7 +115,19 @@ pub fn read(t: Talker, n: usize, s: &[u8], p: &[usize]) -> Sentence
     let metric = form_number::read::number_in(s, p, 7);
     let k8 = form::unit::unit_in(s, p, 8, metric.there, b'K');
     let mode = form_letter::read::letter_in(s, p, 9, b"ADEMSN");
-    vtg_from(t, course, t2, magnetic, m4, speed, n6, metric, k8, mode)
+    vtg_from(
+        out,
+        t,
+        course,
+        t2,
+        magnetic,
+        m4,
+        speed,
+        n6,
+        metric,
+        k8,
+        mode,
+    )
 }
 
 // The first value outside its range, by the number of its field, or 0.

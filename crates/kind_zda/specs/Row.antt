@@ -13,9 +13,10 @@ use Rattle.form_date.specs.Forms.{dayMonthYear, hoursMinutes}
 use Rattle.form_date.specs.declared.Date.{Date}
 use Rattle.form_date.specs.declared.Zone.{Zone}
 use Rattle.form_date.specs.declared.dates.GotDate.{GotDate}
-use Rattle.records.specs.declared.Sentence.{Sentence}
-use Rattle.records.specs.declared.Sentence.the-variants as S
-use Rattle.records.specs.declared.Zda.{Zda}
+use Rattle.kind_zda.specs.declared.Zda.{Zda}
+use Rattle.numbers.specs.Layout.{Layout, standard, standardNumbers}
+use Rattle.numbers.specs.Told.{Answer, gives, refuses}
+use lib.IntN.{ℤ}
 
 abbrev pub Readings : Type 0
 Readings = Got × (GotDate × GotInt)
@@ -33,13 +34,23 @@ zdaRow =
     (λ r. (r .time, (r .date, r .zone)))
     zdaParts
 
--- What the contracts cite.
-abbrev pub zdaFrom : Talker → Got → GotDate → GotInt → Sentence
-zdaFrom t time date zone =
-    answerBy S.Refused zdaRow (S.Zda t) (time, (date, zone))
+-- The record as numbers, as docs/LAYOUT.md lays them out, in the order of its fields; and back.
+unfoldable pub zdaLayout : Layout Zda
+zdaLayout = zdaRow .layout
 
-abbrev pub zdaOf : Talker → ℕ → (ℕ → List ℕ) → Sentence
-zdaOf t = readBy S.Refused zdaRow (S.Zda t)
+abbrev pub zdaNumbers : Talker → Zda → List ℤ
+zdaNumbers = standardNumbers zdaLayout
+
+abbrev pub zdaAt : List ℤ → Zda
+zdaAt n = standard zdaLayout .at n 0 .1
+
+-- What the contracts cite.
+abbrev pub zdaFrom : List ℤ → Talker → Got → GotDate → GotInt → Answer
+zdaFrom out t time date zone =
+    answerBy (refuses out) zdaRow (λ r. gives out 7 (zdaNumbers t r)) (time, (date, zone))
+
+abbrev pub zdaTold : List ℤ → Talker → ℕ → (ℕ → List ℕ) → Answer
+zdaTold out t = readBy (refuses out) zdaRow (λ r. gives out 7 (zdaNumbers t r))
 
 -- The first value outside its range, by the number of its field, or 0; the fields; the body.
 abbrev pub zdaWrong : Zda → ℕ

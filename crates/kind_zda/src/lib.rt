@@ -1,28 +1,68 @@
 // ZDA: time, date and zone.
 use address::Talker;
+use form::Maybe;
 use form::got::Got;
 use form::got::GotInt;
+use form_date::Date;
+use form_date::Zone;
 use form_date::dates::GotDate;
 use frame::Written;
-use records::Sentence;
-use records::Zda;
+use numbers::Told;
 ghost use mathlib.Core.Path.{_≡_};
 ghost use Rattle.put.specs.Wrote.{held, Puts, PutsFields};
 ghost use Rattle.fields.specs.Places.{fieldsBy};
 ghost use Rattle.frame.specs.Written.{faultAt, Writes};
-ghost use Rattle.kind_zda.specs.Row.{zdaBody, zdaFields, zdaFrom, zdaOf, zdaWrong};
+ghost use Rattle.numbers.specs.Told.{gives, Tells};
+ghost use Rattle.kind_zda.specs.Row.{zdaAt, zdaBody, zdaFields, zdaFrom, zdaNumbers, zdaTold, zdaWrong};
 
-// The record, or the first wrong field.
-fn zda_from(t: Talker, time: Got, date: GotDate, zone: GotInt) -> Sentence
-    ensures { λ r. ⌜ r ≡ zdaFrom t time date zone ⌝ }
+pub struct Zda {
+    pub time: Maybe,
+    pub date: Date,
+    pub zone: Zone,
+}
+
+// Lays the numbers of a record, in the order of docs/LAYOUT.md.
+fn lay(out: &mut [i64], t: Talker, r: Zda) -> Told
+    ensures { λ b. ⌜ Tells (gives (now (out .entry)) 7 (zdaNumbers t r)) b (now (out .exit)) ⌝ }
+{
+    let talker = numbers::talker_number(t);
+    let v = [
+        talker as i64,
+        r.time.there as i64,
+        r.time.value as i64,
+        r.date.there as i64,
+        r.date.day as i64,
+        r.date.month as i64,
+        r.date.year as i64,
+        r.zone.there as i64,
+        r.zone.minutes as i64,
+    ];
+    numbers::tell(out, 7, &v)
+}
+
+// The record that numbers say; a number past the end is taken as 0.
+pub fn at(n: &[i64]) -> Zda
+    ensures { λ r. ⌜ r ≡ zdaAt (now (n .entry)) ⌝ }
+{
+    Zda {
+        time: form::from_numbers::maybe(n, 1),
+        date: form_date::from_numbers::date(n, 3),
+        zone: form_date::from_numbers::zone(n, 7),
+    }
+}
+
+// Lays the record, or refuses the first wrong field.
+fn zda_from(out: &mut [i64], t: Talker, time: Got, date: GotDate, zone: GotInt) -> Told
+    ensures { λ r. ⌜ Tells (zdaFrom (now (out .entry)) t time date zone) r (now (out .exit)) ⌝ }
 {
     let w5 = form::keep::near(4, zone.wrong, 0);
     let w2 = form::keep::near(1, date.wrong, w5);
     let w1 = form::keep::near(0, time.wrong, w2);
     if w1 != 0 {
-        return Sentence::Refused(5, w1);
+        return numbers::refuse(5, w1);
     }
-    Sentence::Zda(
+    lay(
+        out,
         t,
         Zda {
             time: form::keep::kept(time),
@@ -32,20 +72,21 @@ fn zda_from(t: Talker, time: Got, date: GotDate, zone: GotInt) -> Sentence
     )
 }
 
-// The record of the fields of a body `s`, `n` of them after the address, by their ends `p`. Refused: 4
-// where there are not so many as the kind has, 5 at the first wrong field.
+// Reads the fields of a body `s`, `n` of them after the address, by their ends `p`, and lays the numbers of the record at
+// the start of `out`. Refused: 4 where there are not so many fields as the kind has, 5 at the first wrong field, 8 where
+// `out` is shorter than the record; then `out` is left.
 //
 //     $GPZDA,075140.00,15,11,2026,-00,30*4D
-pub fn read(t: Talker, n: usize, s: &[u8], p: &[usize]) -> Sentence
-    ensures { λ r. ⌜ r ≡ zdaOf t n (fieldsBy (now (p .entry)) (now (s .entry))) ⌝ }
+pub fn read(out: &mut [i64], t: Talker, n: usize, s: &[u8], p: &[usize]) -> Told
+    ensures { λ r. ⌜ Tells (zdaTold (now (out .entry)) t n (fieldsBy (now (p .entry)) (now (s .entry)))) r (now (out .exit)) ⌝ }
 {
     if n != 6 {
-        return Sentence::Refused(4, 0);
+        return numbers::refuse(4, 0);
     }
     let time = form_time::read::time_in(s, p, 1);
     let date = form_date::dates::three_in(s, p, 2, 3, 4);
     let zone = form_date::zones::zone_in(s, p, 5, 6);
-    zda_from(t, time, date, zone)
+    zda_from(out, t, time, date, zone)
 }
 
 // The first value outside its range, by the number of its field, or 0.

@@ -3,7 +3,7 @@ use libc::STDERR_FILENO;
 use libc::STDIN_FILENO;
 use libc::STDOUT_FILENO;
 ghost use Rattle.put.specs.Wrote.{held, Puts};
-ghost use Rattle.reading.specs.Lines.{readLine};
+ghost use Rattle.sentence.specs.Lines.{readLine};
 ghost use Rattle.rows.specs.Row.{rowText};
 
 // What listing some bytes leaves: where the bytes to keep begin, the rows so far, and whether all
@@ -28,7 +28,7 @@ fn list_line(out: &mut [u8], place: usize, number: u64, line: &[u8], dumps: bool
         (held r (now (out .exit))) ⌝ }
 {
     let mut numbers = [0i64; 33];
-    let told = hostrecords::read(line, &mut numbers);
+    let told = sentence::read(line, &mut numbers);
     rows::put_row(out, place, number, line, told, &numbers, dumps)
 }
 

@@ -9,7 +9,7 @@ use lib.Signed.{ltZ}
 use Rattle.digits.specs.Ascii.{ascii}
 use Rattle.digits.specs.Decimal.{printFixed}
 use Rattle.digits.specs.Plain.{numberText}
-use Rattle.slots.specs.Layout.{signed, whole}
+use Rattle.numbers.specs.Layout.{signed, whole}
 use Rattle.text.specs.Numbers.{decimalText}
 
 -- The one text or the other.

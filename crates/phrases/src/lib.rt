@@ -133,7 +133,7 @@ fn put_signed(out: &mut [u8], at: usize, f: u8, z: i32) -> usize
 pub fn put_measure(out: &mut [u8], at: usize, f: u8, numbers: &[i64]) -> usize
     ensures { λ r. ⌜ Puts (held at (now (out .entry))) (measureText f (now (numbers .entry))) (held r (now (out .exit))) ⌝ }
 {
-    let u = slots::whole_at(numbers, 0);
+    let u = numbers::whole_at(numbers, 0);
     if f == b'n' {
         return text::put_number(out, at, u as u64);
     }
@@ -144,13 +144,13 @@ pub fn put_measure(out: &mut [u8], at: usize, f: u8, numbers: &[i64]) -> usize
         return put_clock(out, at, u);
     }
     if f == b'd' {
-        let v = slots::whole_at(numbers, 1);
-        let w = slots::whole_at(numbers, 2);
+        let v = numbers::whole_at(numbers, 1);
+        let w = numbers::whole_at(numbers, 2);
         return put_date(out, at, u, v, w);
     }
-    let z = slots::signed_at(numbers, 0);
+    let z = numbers::signed_at(numbers, 0);
     if f == b'p' {
-        let lon = slots::signed_at(numbers, 1);
+        let lon = numbers::signed_at(numbers, 1);
         return put_place(out, at, z, lon);
     }
     put_signed(out, at, f, z)

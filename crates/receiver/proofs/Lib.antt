@@ -1,3 +1,4 @@
 pub mod DoesLaws
+pub mod LineLaws
 pub mod SettingsLaws
 pub mod StepLaws

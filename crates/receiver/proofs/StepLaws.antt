@@ -5,7 +5,7 @@ use mathlib.Core.Bool.{true, false, _&&_}
 use mathlib.Core.List.{List}
 use lib.Dec.{ltb}
 use borrow.Author.Tests.{eq-eqb, ne-eqb}
-use Rattle.reading.specs.Lines.{readLine}
+use Rattle.sentence.specs.Lines.{readLine}
 use Rattle.receiver.specs.declared.Settings.{Settings}
 use Rattle.receiver.specs.Settings.{portOf, settingsGood}
 use Rattle.receiver.specs.Command.{refuses, sentenceOutcome, outcomeOf}
@@ -20,6 +20,6 @@ module _ (s : Settings) (arrival : ℕ) (line : List ℕ) where
   then-ten e h = rw (e, ne-eqb (portOf s arrival .protocol) 4 h)
 
   pub then-line : (ltb arrival 2 && settingsGood s) ≡ true → portOf s arrival .protocol ≡ 4
-      → outcomeOf s arrival line ≡ sentenceOutcome s arrival (readLine line .sentence)
+      → outcomeOf s arrival line ≡ sentenceOutcome s arrival (readLine line)
   unfolding outcomeOf
   then-line e h = rw (e, eq-eqb (portOf s arrival .protocol) 4 h)

@@ -6,16 +6,16 @@ use mathlib.Core.Bool.{_&&_, cond}
 use mathlib.Core.List.{List}
 use lib.Dec.{eqb, ltb}
 use lib.ListN.{length}
-use Rattle.records.specs.declared.CodeTold.{CodeTold}
-use Rattle.records.specs.declared.DatumAsked.{DatumAsked}
-use Rattle.records.specs.declared.DatumTold.{DatumTold}
-use Rattle.records.specs.declared.MasksAsked.{MasksAsked}
-use Rattle.records.specs.declared.MasksTold.{MasksTold}
-use Rattle.records.specs.declared.PortAsked.{PortAsked}
-use Rattle.records.specs.declared.PortTold.{PortTold}
-use Rattle.records.specs.declared.Sentence.{Sentence}
-use Rattle.records.specs.declared.Sentence.the-variants as S
-use Rattle.reading.specs.Lines.{readLine}
+use Rattle.kind_pir_code.specs.declared.reply.CodeTold.{CodeTold}
+use Rattle.kind_pir_datum.specs.declared.command.DatumAsked.{DatumAsked}
+use Rattle.kind_pir_datum.specs.declared.reply.DatumTold.{DatumTold}
+use Rattle.kind_pir_masks.specs.declared.command.MasksAsked.{MasksAsked}
+use Rattle.kind_pir_masks.specs.declared.reply.MasksTold.{MasksTold}
+use Rattle.kind_pir_port.specs.declared.command.PortAsked.{PortAsked}
+use Rattle.kind_pir_port.specs.declared.reply.PortTold.{PortTold}
+use Rattle.sentence.specs.Sentence.{Sentence}
+use Rattle.sentence.specs.Sentence as S
+use Rattle.sentence.specs.Lines.{readLine}
 use Rattle.frame.specs.declared.Written.{Written}
 use Rattle.digits.specs.Pick.{pick}
 use Rattle.frame.specs.Written.{faultAt, leftOf, refused, writtenOf}
@@ -105,8 +105,8 @@ sentenceOutcome s arrival (S.Sr r) = masksReply (afterMasks s r)
 sentenceOutcome s arrival S.Er = codeReply s
 sentenceOutcome s arrival (S.Gga t r) = refuses 9 1 0
 sentenceOutcome s arrival (S.Gll t r) = refuses 9 1 0
-sentenceOutcome s arrival (S.Gsa t) = refuses 9 1 0
-sentenceOutcome s arrival (S.Gsv t) = refuses 9 1 0
+sentenceOutcome s arrival (S.Gsa t r) = refuses 9 1 0
+sentenceOutcome s arrival (S.Gsv t r) = refuses 9 1 0
 sentenceOutcome s arrival (S.Rmc t r) = refuses 9 1 0
 sentenceOutcome s arrival (S.Vtg t r) = refuses 9 1 0
 sentenceOutcome s arrival (S.Zda t r) = refuses 9 1 0
@@ -120,7 +120,7 @@ sentenceOutcome s arrival (S.Ea r) = refuses 9 1 0
 unfoldable pub outcomeOf : Settings → ℕ → List ℕ → Outcome
 outcomeOf s arrival line =
     pick (ltb arrival 2 && settingsGood s)
-    (pick (eqb (portOf s arrival .protocol) 4) (sentenceOutcome s arrival (readLine line .sentence)) (refuses 10 1 0))
+    (pick (eqb (portOf s arrival .protocol) 4) (sentenceOutcome s arrival (readLine line)) (refuses 10 1 0))
     (refuses 5 0 0)
 
 -- Then 8: the answer in an output with so much room, the settings after it, and what is left of the output.

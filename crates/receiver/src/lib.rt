@@ -2,18 +2,17 @@
 pub mod state;
 
 use frame::Written;
-use records::CodeTold;
-use records::DatumAsked;
-use records::DatumTold;
-use records::MasksAsked;
-use records::MasksTold;
-use records::PortAsked;
-use records::PortTold;
-use records::Sentence;
+use kind_pir_code::reply::CodeTold;
+use kind_pir_datum::command::DatumAsked;
+use kind_pir_datum::reply::DatumTold;
+use kind_pir_masks::command::MasksAsked;
+use kind_pir_masks::reply::MasksTold;
+use kind_pir_port::command::PortAsked;
+use kind_pir_port::reply::PortTold;
 ghost use mathlib.Core.Bool.{cond};
 ghost use mathlib.Core.Path.{_≡_};
 ghost use Rattle.frame.specs.Written.{refused};
-ghost use Rattle.reading.specs.Lines.{readLine};
+ghost use Rattle.sentence.specs.Lines.{readLine};
 ghost use Rattle.receiver.specs.Command.{afterDatum, afterMasks, afterPort, codeReply, datumReply, datumTold, Does, handedOver};
 ghost use Rattle.receiver.specs.Command.{masksReply, namedPort, outcomeOf, portReply, portTold, sentenceOutcome};
 
@@ -213,27 +212,20 @@ impl Settings {
 // What a line is to the receiver: a command is carried out; 9 for any other sentence; its own refusal where it
 // does not read.
 fn take_line(s: Settings, arrival: u32, line: &[u8], out: &mut [u8]) -> Done
-    ensures { λ d. ⌜ Does s (sentenceOutcome s arrival (readLine (now (line .entry)) .sentence)) (now (out .entry)) d (now (out .exit)) ⌝ }
+    ensures { λ d. ⌜ Does s (sentenceOutcome s arrival (readLine (now (line .entry)))) (now (out .entry)) d (now (out .exit)) ⌝ }
 {
-    let reading = reading::read_line(line);
-    let sentence = reading.sentence;
-    match sentence {
-        Sentence::Pr(r) => s.port(arrival, r, out),
-        Sentence::Tr(r) => s.place(r, out),
-        Sentence::Sr(r) => s.satellites(r, out),
-        Sentence::Er => s.test(out),
-        Sentence::Refused(no, field) => refuse(s, no, 1, field),
-        Sentence::Gga(_, _) => refuse(s, 9, 1, 0),
-        Sentence::Gll(_, _) => refuse(s, 9, 1, 0),
-        Sentence::Gsa(_) => refuse(s, 9, 1, 0),
-        Sentence::Gsv(_) => refuse(s, 9, 1, 0),
-        Sentence::Rmc(_, _) => refuse(s, 9, 1, 0),
-        Sentence::Vtg(_, _) => refuse(s, 9, 1, 0),
-        Sentence::Zda(_, _) => refuse(s, 9, 1, 0),
-        Sentence::Pa(_) => refuse(s, 9, 1, 0),
-        Sentence::Ta(_) => refuse(s, 9, 1, 0),
-        Sentence::Sa(_) => refuse(s, 9, 1, 0),
-        Sentence::Ea(_) => refuse(s, 9, 1, 0),
+    let mut n = [0i64; 33];
+    let told = sentence::read(line, &mut n);
+    if told.no != 0 {
+        return refuse(s, told.no, 1, told.field);
+    }
+    let kind = told.kind;
+    match kind {
+        8 => s.port(arrival, kind_pir_port::command::at(&n), out),
+        9 => s.place(kind_pir_datum::command::at(&n), out),
+        10 => s.satellites(kind_pir_masks::command::at(&n), out),
+        11 => s.test(out),
+        _ => refuse(s, 9, 1, 0),
     }
 }
 

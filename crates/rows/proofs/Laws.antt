@@ -15,7 +15,7 @@ use borrow.Author.Tests.{lt-ltb, le-ltb, eq-eqb, ne-eqb}
 use Rattle.digits.specs.Ascii.{ascii}
 use Rattle.put.specs.Wrote.{Held, wrote, Puts}
 use Rattle.put.proofs.Chain.{wrote-append}
-use Rattle.tonumbers.specs.Layout.{countOf}
+use Rattle.sentence.specs.Numbers.{countOf}
 use Rattle.text.specs.Numbers.{intText, valueText}
 use Rattle.rows.specs.Row.{fiveBytes, addressText, answerText, numbersText, shown}
 

@@ -1,51 +1,26 @@
--- A row by what a host is told, who lends room for every record, is the row of the reading: kind by kind, since each has just so many
--- numbers.
-use Prim.Native.Nat.{ℕ, _≤_}
+-- A row by what a host is told, who lends room for every record, is the row of the sentence: it has just as many numbers as its kind.
+use Prim.Native.Nat.{ℕ}
 use mathlib.Core.Bool.{Bool, true, false}
 use mathlib.Core.List.{List, [], _∷_, _++_}
 use mathlib.Core.Path.{_≡_, refl, sym, ap, _∙_}
 use native.Mathlib.Omega.{arith}
-use lib.Dec.{eqb, leb, lit≤}
+use lib.Dec.{eqb, leb}
 use lib.IntN.{ℤ}
 use lib.ListN.{length, take, drop}
 use lib.Seq.{take-all, take-at}
 use borrow.Author.Tests.{eqb-true, le-leb}
 use Rattle.digits.specs.Pick.{pick}
-use Rattle.reading.specs.Lines.{refusalOf}
-use Rattle.records.specs.declared.Gsa.{Gsa}
-use Rattle.records.specs.declared.Gsv.{Gsv}
-use Rattle.records.specs.declared.Reading.{Reading}
-use Rattle.records.specs.declared.Sentence.{Sentence}
-use Rattle.records.specs.declared.Sentence.the-variants as S
-use Rattle.slots.specs.Slots.{laid}
-use Rattle.tonumbers.specs.Layout.{countOf, ggaLayout, gllLayout, gsaLayout, gsvLayout, kindOf, numbersOf, pireaLayout, pirpaLayout}
-use Rattle.tonumbers.specs.Layout.{pirprLayout, pirsaLayout, pirsrLayout, pirtaLayout, pirtrLayout, rmcLayout, sentenceNumbers, vtgLayout}
-use Rattle.tonumbers.specs.Layout.{zdaLayout}
-use Rattle.hostrecords.specs.declared.Told.{Told}
-use Rattle.hostrecords.specs.ToHost.{laidFor, told, toldFor, toldOf}
+use Rattle.sentence.specs.Lines.{refusalOf}
+use Rattle.sentence.specs.Sentence as S
+use Rattle.sentence.specs.Sentence.{Sentence}
+use Rattle.numbers.specs.Numbers.{laid}
+use Rattle.sentence.specs.Numbers.{countOf, kindOf, numbersOf}
+use Rattle.numbers.specs.declared.Told.{Told}
+use Rattle.sentence.specs.ToHost.{laidFor, toldFor, toldOf}
+use Rattle.numbers.specs.Told.{told}
+use Rattle.tripsnumbers.proofs.Records.{many-numbers, most-numbers}
 use Rattle.text.specs.Numbers.{decimalText}
 use Rattle.rows.specs.Row.{addressText, answerText, askedText, rowText, shown, toldRow}
-
--- A sentence has as many numbers as its kind, and no kind has more than 33.
-many : (s : Sentence) (a : Gsa) (v : Gsv) → (length (sentenceNumbers s a v) ≡ countOf (kindOf s)) × (countOf (kindOf s) ≤ 33)
-unfolding ggaLayout gllLayout gsaLayout gsvLayout rmcLayout vtgLayout zdaLayout pirprLayout pirtrLayout pirsrLayout pirpaLayout pirtaLayout
-    pirsaLayout pireaLayout
-many (S.Gga t r) a v = (refl, lit≤ tt)
-many (S.Gll t r) a v = (refl, lit≤ tt)
-many (S.Gsa t) a v = (refl, lit≤ tt)
-many (S.Gsv t) a v = (refl, lit≤ tt)
-many (S.Rmc t r) a v = (refl, lit≤ tt)
-many (S.Vtg t r) a v = (refl, lit≤ tt)
-many (S.Zda t r) a v = (refl, lit≤ tt)
-many (S.Pr r) a v = (refl, lit≤ tt)
-many (S.Tr r) a v = (refl, lit≤ tt)
-many (S.Sr r) a v = (refl, lit≤ tt)
-many S.Er a v = (refl, lit≤ tt)
-many (S.Pa r) a v = (refl, lit≤ tt)
-many (S.Ta r) a v = (refl, lit≤ tt)
-many (S.Sa r) a v = (refl, lit≤ tt)
-many (S.Ea r) a v = (refl, lit≤ tt)
-many (S.Refused n f) a v = (refl, lit≤ tt)
 
 -- What is told where there is room: of a sentence that was read its kind, of a refused one the refusal.
 module _ (n : ℕ) (line : List ℕ) (numbers : List ℤ) (asked : Bool) where
@@ -64,8 +39,8 @@ module _ (n : ℕ) (line : List ℕ) (numbers : List ℤ) (asked : Bool) where
   unfolding toldOf
   told-row (S.Gga t r) = refl
   told-row (S.Gll t r) = refl
-  told-row (S.Gsa t) = refl
-  told-row (S.Gsv t) = refl
+  told-row (S.Gsa t r) = refl
+  told-row (S.Gsv t r) = refl
   told-row (S.Rmc t r) = refl
   told-row (S.Vtg t r) = refl
   told-row (S.Zda t r) = refl
@@ -79,32 +54,29 @@ module _ (n : ℕ) (line : List ℕ) (numbers : List ℤ) (asked : Bool) where
   told-row (S.Ea r) = refl
   told-row (S.Refused k f) = refused k f
 
-module _ (n : ℕ) (line : List ℕ) (r : Reading) (out : List ℤ) (asked : Bool) (room : length out ≡ 33) where
+module _ (n : ℕ) (line : List ℕ) (s : Sentence) (out : List ℤ) (asked : Bool) (room : length out ≡ 33) where
   abbrev kind : ℕ
-  kind = kindOf (r .sentence)
+  kind = kindOf s
 
-  enough : leb (length (numbersOf r)) (length out) ≡ true
-  enough =
-      let m = many (r .sentence) (r .gsa) (r .gsv) in
-      le-leb (length (numbersOf r)) (length out) (omega (arith, m .0, m .1, room))
+  enough : leb (length (numbersOf s)) (length out) ≡ true
+  enough = le-leb (length (numbersOf s)) (length out) (omega (arith, most-numbers s, room))
 
-  same-numbers : take (countOf kind) (laidFor r out) ≡ take (countOf kind) (numbersOf r)
+  same-numbers : take (countOf kind) (laidFor s out) ≡ take (countOf kind) (numbersOf s)
   unfolding laid
   same-numbers =
-      let e = many (r .sentence) (r .gsa) (r .gsv) .0 in
-      rw enough (take-at (numbersOf r) (drop (length (numbersOf r)) out) (countOf kind) e)
-      ∙ sym (take-all (countOf kind) (numbersOf r) (omega (arith, e)))
+      let e = many-numbers s .0 in
+      rw enough (take-at (numbersOf s) (drop (length (numbersOf s)) out) (countOf kind) e)
+      ∙ sym (take-all (countOf kind) (numbersOf s) (omega (arith, e)))
 
-  same-asked : (b : Bool) → askedText b kind (laidFor r out) ≡ askedText b kind (numbersOf r)
+  same-asked : (b : Bool) → askedText b kind (laidFor s out) ≡ askedText b kind (numbersOf s)
   unfolding shown
   same-asked true = rw same-numbers
   same-asked false = refl
 
-  pub row-is : toldRow n line (toldFor r out) (laidFor r out) asked ≡ rowText n line r asked
+  pub row-is : toldRow n line (toldFor s out) (laidFor s out) asked ≡ rowText n line s asked
   row-is =
-      let s = r .sentence in
-      ap (λ (b : Bool). toldRow n line (toldOf (refusalOf s) b kind) (laidFor r out) asked) enough
-      ∙ (told-row n line (laidFor r out) asked s
+      ap (λ (b : Bool). toldRow n line (toldOf (refusalOf s) b kind) (laidFor s out) asked) enough
+      ∙ (told-row n line (laidFor s out) asked s
       ∙ ap
       (λ (x : List ℕ). decimalText n ++ (32 ∷ addressText (refusalOf s .no) line)
       ++ (32 ∷ answerText (refusalOf s .no) (refusalOf s .field))

@@ -7,11 +7,11 @@ use lib.Dec.{ltb, eqb}
 use lib.IntN.{ℤ}
 use lib.ListN.{length, take, drop}
 use Rattle.digits.specs.Ascii.{ascii}
-use Rattle.reading.specs.Lines.{refusalOf}
-use Rattle.records.specs.declared.Reading.{Reading}
-use Rattle.tonumbers.specs.Layout.{countOf, kindOf, numbersOf}
-use Rattle.hostrecords.specs.declared.Told.{Told}
-use Rattle.hostrecords.specs.ToHost.{told}
+use Rattle.sentence.specs.Lines.{refusalOf}
+use Rattle.sentence.specs.Numbers.{countOf, kindOf, numbersOf}
+use Rattle.sentence.specs.Sentence.{Sentence}
+use Rattle.numbers.specs.declared.Told.{Told}
+use Rattle.numbers.specs.Told.{told}
 use Rattle.text.specs.Numbers.{decimalText, intText, valueText}
 
 -- The five bytes after the `$`; none of a line that is shorter, which is refused with 1.
@@ -44,7 +44,6 @@ toldRow number line t numbers asked =
     decimalText number ++ (32 ∷ addressText (t .no) line) ++ (32 ∷ answerText (t .no) (t .field))
     ++ askedText asked (t .kind) numbers ++ (10 ∷ [])
 
--- The row of a line that came to a reading.
-abbrev pub rowText : ℕ → List ℕ → Reading → Bool → List ℕ
-rowText number line r asked =
-    toldRow number line (told (refusalOf (r .sentence) .no) (kindOf (r .sentence)) (refusalOf (r .sentence) .field)) (numbersOf r) asked
+-- The row of a line that came to a sentence.
+abbrev pub rowText : ℕ → List ℕ → Sentence → Bool → List ℕ
+rowText number line s asked = toldRow number line (told (refusalOf s .no) (kindOf s) (refusalOf s .field)) (numbersOf s) asked

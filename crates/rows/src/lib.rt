@@ -1,6 +1,6 @@
 // A row of the listing: the number of a line, its address or `-`, and the answer. Each function writes into
 // a lent buffer from the place `at` on, as far as there is room, and answers the next place.
-use hostrecords::Told;
+use numbers::Told;
 ghost use Prim.Native.Nat.{_+_, min};
 ghost use mathlib.Core.Path.{_≡_};
 ghost use lib.ListN.{drop, take};
@@ -64,7 +64,7 @@ fn behind(numbers: &[i64], n: usize) -> &[i64]
 fn shown_of(numbers: &[i64], kind: u32) -> &[i64]
     ensures { λ r. ⌜ now r ≡ shown kind (now (numbers .entry)) ⌝ }
 {
-    let all = front(numbers, fromnumbers::count_of(kind));
+    let all = front(numbers, sentence::count_of(kind));
     if kind < 8 {
         return behind(all, 1);
     }

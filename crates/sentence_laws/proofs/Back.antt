@@ -16,7 +16,7 @@ use Rattle.fields.specs.Fields.{fieldsOf, joinFields}
 use Rattle.fields.specs.Places.{theFields}
 use Rattle.fields.proofs.Joining.{fields-join}
 use Rattle.form.proofs.Clean.{all-free, Clean, clean-free, clean-joined, CleanAll}
-use Rattle.reading.specs.Lines.{addressed, readBody, readLine}
+use Rattle.sentence.specs.Lines.{addressed, readBody, readLine}
 
 module _ (a f : List ℕ) (fs : List (List ℕ)) (five : length a ≡ 5) (ca : Clean a) (cs : CleanAll (f ∷ fs)) where
   abbrev body : List ℕ

@@ -19,12 +19,13 @@ use Rattle.form.specs.Row.{Row}
 use Rattle.form.proofs.Clean.{Clean}
 use Rattle.form.proofs.PlaceKind.{Placed}
 use Rattle.form.proofs.PlaceLaws.{Agree, namedAt}
-use Rattle.records.specs.declared.Reading.{Reading}
-use Rattle.records.specs.declared.Sentence.the-variants as S
+use Rattle.sentence.specs.Sentence.{Sentence}
+use Rattle.sentence.specs.Sentence as S
 use Rattle.kind_gga.specs.Row.{ggaRow}
 use Rattle.kind_gll.specs.Row.{gllRow}
-use Rattle.kind_gsa.specs.Row.{gsaBeside, gsaMade, gsaRow}
-use Rattle.kind_gsv.specs.Row.{entriesOf, gsvBeside, gsvOf, gsvRow, gsvWith, refused}
+use Rattle.kind_gsa.specs.Row.{gsaMade, gsaRow}
+use Rattle.kind_gsv.specs.Row.{entriesOf, gsvRow, gsvWith}
+use Rattle.sentence.specs.Kinds.{gsvOf}
 use Rattle.kind_gsv.proofs.Places.{entries-are}
 use Rattle.kind_rmc.specs.Row.{rmcRow}
 use Rattle.kind_vtg.specs.Row.{vtgRow}
@@ -38,15 +39,15 @@ use Rattle.kind_pir_masks.specs.Command.{pirsrRow}
 use Rattle.kind_pir_masks.specs.Reply.{pirsaRow}
 use Rattle.kind_pir_code.specs.Command.{pirerRow}
 use Rattle.kind_pir_code.specs.Reply.{pireaRow}
-use Rattle.reading.specs.Lines.{addressed, refusal, refusalOf}
-use Rattle.reading.specs.declared.Refusal.{Refusal}
+use Rattle.sentence.specs.Lines.{addressed, refusal, Refusal, refusalOf}
 use Rattle.sentence_laws.proofs.FiveMaker as C
+use Rattle.sentence_laws.proofs.Gsv.{gsvIs}
 use Rattle.sentence_laws.proofs.FiveSatellites as Sat
 use Rattle.sentence_laws.proofs.FiveStandard as N
 
 -- What n fields behind an address are refused with.
 abbrev pub toldOf : Address → ℕ → (ℕ → List ℕ) → Refusal
-toldOf a n field = refusalOf (addressed a n field .sentence)
+toldOf a n field = refusalOf (addressed a n field)
 
 -- Fields that are the same before field w, clean from it on, and read.
 pub record Accepted (a : Address) (n : ℕ) (field : ℕ → List ℕ) (w : ℕ) : Type 0 where
@@ -121,12 +122,12 @@ module _ {A G R : Type 0} (refuse : ℕ → ℕ → A) (row : Row G R) (make : R
 
 -- GSV by the row of its entries; with over four there is no 5.
 gsv-row : (t : Talker) (n : ℕ) (field : ℕ → List ℕ) → entriesOf n ≤ 4
-    → gsvOf t n field ≡ readBy refused (gsvRow (entriesOf n)) (gsvBeside t (entriesOf n)) n field
-unfolding gsvOf gsvWith readBy
+    → gsvOf t n field ≡ readBy S.Refused (gsvRow (entriesOf n)) (gsvIs t (entriesOf n)) n field
+unfolding gsvWith readBy
 gsv-row t n field few = rw (le-ltb 4 (entriesOf n) few, eq-eqb n (gsvRow (entriesOf n) .width) (entries-are n few))
 
-many-four : (t : Talker) (n : ℕ) (field : ℕ → List ℕ) → ltb 4 (entriesOf n) ≡ true → refusalOf (gsvOf t n field .sentence) ≡ refusal 4 0
-unfolding gsvOf gsvWith
+many-four : (t : Talker) (n : ℕ) (field : ℕ → List ℕ) → ltb 4 (entriesOf n) ≡ true → refusalOf (gsvOf t n field) ≡ refusal 4 0
+unfolding gsvWith
 many-four t n field h = rw h
 
 gsv-five : (t : Talker) (n : ℕ) (field : ℕ → List ℕ) (w : ℕ) → toldOf (Standard t K.Gsv) n field ≡ refusal 5 w
@@ -141,9 +142,9 @@ gsv-five t n field w e = go (ltb 4 (entriesOf n)) refl
     go false q =
         let count = entriesOf n in
         let few = ltb-false 4 (entriesOf n) q in
-        five-of refused (gsvRow count) (gsvBeside t count) (λ (r : Reading). refusalOf (r .sentence)) (λ no at. refl) (λ r. refl)
+        five-of S.Refused (gsvRow count) (gsvIs t count) refusalOf (λ no at. refl) (λ r. refl)
         (Sat.gsv t count)
-        (Standard t K.Gsv) n (λ f. ap (λ (r : Reading). refusalOf (r .sentence)) (gsv-row t n f few)) (λ f u. tt) field w e
+        (Standard t K.Gsv) n (λ f. ap refusalOf (gsv-row t n f few)) (λ f u. tt) field w e
 
 standard-five : (t : Talker) (k : Kind) (n : ℕ) (field : ℕ → List ℕ) (w : ℕ) → toldOf (Standard t k) n field ≡ refusal 5 w
     → Five (Standard t k) n field w
@@ -158,7 +159,7 @@ standard-five t K.Vtg n =
 standard-five t K.Zda n =
     five-of S.Refused zdaRow (S.Zda t) refusalOf (λ no at. refl) (λ r. refl) (N.zda t) (Standard t K.Zda) n (λ f. refl) (λ f u. u)
 standard-five t K.Gsa n =
-    five-of refused gsaRow (λ v. gsaBeside t (gsaMade v)) (λ (r : Reading). refusalOf (r .sentence)) (λ no at. refl) (λ r. refl) (Sat.gsa t)
+    five-of S.Refused gsaRow (λ v. S.Gsa t (gsaMade v)) refusalOf (λ no at. refl) (λ r. refl) (Sat.gsa t)
     (Standard t K.Gsa) n (λ f. refl) (λ f u. tt)
 standard-five t K.Gsv n = gsv-five t n
 

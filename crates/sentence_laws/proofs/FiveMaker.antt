@@ -1,6 +1,6 @@
 -- The place of a 5 in the maker's commands and their replies.
 use Rattle.form.proofs.PlaceKind.{Placed, placed}
-use Rattle.records.specs.declared.Sentence.the-variants as S
+use Rattle.sentence.specs.Sentence as S
 use Rattle.kind_pir_port.specs.Command.{pirprRow}
 use Rattle.kind_pir_port.specs.Reply.{pirpaRow}
 use Rattle.kind_pir_port.proofs.Laws.{prefix-pirpa, prefix-pirpr}

@@ -1,7 +1,7 @@
 -- The place of a 5 in GGA, GLL, RMC, VTG and ZDA.
 use Rattle.address.specs.declared.Talker.{Talker}
 use Rattle.form.proofs.PlaceKind.{Placed, placed}
-use Rattle.records.specs.declared.Sentence.the-variants as S
+use Rattle.sentence.specs.Sentence as S
 use Rattle.kind_gga.specs.Row.{ggaRow}
 use Rattle.kind_gga.proofs.Laws.{prefix-gga}
 use Rattle.kind_gll.specs.Row.{gllRow}

@@ -22,15 +22,17 @@ use Rattle.form.proofs.Clean.{Clean}
 use Rattle.form.proofs.CleanTexts.{joined-length, total, total-append}
 use Rattle.form.proofs.Lists.{all-four}
 use Rattle.form_number.proofs.Texts.{long-fixed}
-use Rattle.records.specs.Blank.{blankEntry}
-use Rattle.records.specs.declared.Entry.{Entry}
-use Rattle.records.specs.declared.Gsv.{Gsv}
-use Rattle.records.specs.declared.Reading.{Reading}
-use Rattle.kind_gsv.specs.Row.{entriesOf, gsvBeside, gsvMade, gsvOf, gsvRow, gsvWith, refused}
+use Rattle.kind_gsv.specs.Blank.{blankEntry}
+use Rattle.kind_gsv.specs.declared.Entry.{Entry}
+use Rattle.kind_gsv.specs.declared.Gsv.{Gsv}
+use Rattle.sentence.specs.Sentence as S
+use Rattle.sentence.specs.Sentence.{Sentence}
+use Rattle.kind_gsv.specs.Row.{entriesOf, gsvMade, gsvRow, gsvWith, Values}
+use Rattle.sentence.specs.Kinds.{gsvOf}
 use Rattle.kind_gsv.specs.Writing.{entryFields, entryOf, gsvBody, gsvFields, gsvValues, used}
 use Rattle.kind_gsv.proofs.GoodLaws.{Good}
-use Rattle.kind_gsv.proofs.Laws.{good-row, lawful-gsv, row-good, theGsv}
-use Rattle.reading.specs.Lines.{addressed, readLine}
+use Rattle.kind_gsv.proofs.Laws.{good-row, lawful-gsv, row-good}
+use Rattle.sentence.specs.Lines.{addressed, readLine}
 use Rattle.sentence_laws.proofs.Known.{address-clean, address-five, known-gsv}
 use Rattle.sentence_laws.proofs.Trips.{line-back, read-in-range}
 
@@ -67,11 +69,15 @@ fits t r =
       long 3,
     )
 
+-- A sentence of so many entries.
+abbrev pub gsvIs : Talker → ℕ → Values → Sentence
+gsvIs t count v = S.Gsv t (gsvMade count v)
+
 -- The address leads to the row of so many entries.
 leads : (count : ℕ) → count ≤ 4 → (t : Talker) (field : ℕ → List ℕ)
     → addressed (A.Standard t K.Gsv) (gsvRow count .width) field
-    ≡ readBy refused (gsvRow count) (gsvBeside t count) (gsvRow count .width) field
-unfolding gsvOf gsvWith entriesOf gsvRow readBy
+    ≡ readBy S.Refused (gsvRow count) (gsvIs t count) (gsvRow count .width) field
+unfolding gsvWith entriesOf gsvRow readBy
 leads zero h t field = refl
 leads (suc zero) h t field = refl
 leads (suc (suc zero)) h t field = refl
@@ -84,40 +90,39 @@ unfolding gsvRow
 some-width count = omega arith
 
 -- What is written is read back as the same record and talker.
-pub read-write : (t : Talker) (r : Gsv) → length (r .entries) ≡ 4 → Good r → readLine (asLine (gsvBody t r)) ≡ theGsv t r
+pub read-write : (t : Talker) (r : Gsv) → length (r .entries) ≡ 4 → Good r → readLine (asLine (gsvBody t r)) ≡ S.Gsv t r
 unfolding gsvFields
 read-write t r four good =
     let a = talkerText t ++ ascii "GSV" in
     let three : Clean (ascii "GSV") = ((lit< tt, lit< tt), ((lit< tt, lit< tt), ((lit< tt, lit< tt), tt))) in
     let to-row : (field : ℕ → List ℕ) → addressed (knownOf a) (gsvRow (r .count) .width) field
-    ≡ readBy refused (gsvRow (r .count)) (gsvBeside t (r .count)) (gsvRow (r .count) .width) field = λ field.
+    ≡ readBy S.Refused (gsvRow (r .count)) (gsvIs t (r .count)) (gsvRow (r .count) .width) field = λ field.
     ap (λ (x : Address). addressed x (gsvRow (r .count) .width) field) (known-gsv t) ∙ leads (r .count) (good .few) t field in
-    let again : List Entry → Reading = λ es.
-    theGsv t (record { lines = r .lines; line = r .line; satellites = r .satellites; count = r .count; entries = es }) in
-    line-back refused (gsvRow (r .count)) (lawful-gsv (r .count)) (gsvBeside t (r .count)) (λ x. x) a (address-five t (ascii "GSV") refl)
+    let again : List Entry → Sentence = λ es.
+    S.Gsv t (record { lines = r .lines; line = r .line; satellites = r .satellites; count = r .count; entries = es }) in
+    line-back (gsvRow (r .count)) (lawful-gsv (r .count)) (gsvIs t (r .count)) a (address-five t (ascii "GSV") refl)
     (address-clean t (ascii "GSV") refl three) (some-width (r .count)) to-row (gsvValues r) (good-row r good) (fits t r)
     ∙ ap again (all-four blankEntry (r .entries) four)
 
 -- Whatever holds of refusals and of records without a fault holds of what is read.
-module _ (t : Talker) (field : ℕ → List ℕ) (P : Reading → Type 0) (none : (no at : ℕ) → P (refused no at))
-    (written : (r : Gsv) → length (r .entries) ≡ 4 → Good r → P (theGsv t r)) where
-  by-row : (count : ℕ) → count ≤ 4 → P (answerBy refused (gsvRow count) (gsvBeside t count) (gsvRow count .got field 0))
+module _ (t : Talker) (field : ℕ → List ℕ) (P : Sentence → Type 0) (none : (no at : ℕ) → P (S.Refused no at))
+    (written : (r : Gsv) → length (r .entries) ≡ 4 → Good r → P (S.Gsv t r)) where
+  by-row : (count : ℕ) → count ≤ 4 → P (answerBy S.Refused (gsvRow count) (gsvIs t count) (gsvRow count .got field 0))
   unfolding readBy
   by-row count few =
       let row = gsvRow count in
-      let made = read-in-range refused row (lawful-gsv count) (gsvBeside t count) (row .width) field P none
+      let made = read-in-range row (lawful-gsv count) (gsvIs t count) (row .width) field P none
       (λ v n e. written (gsvMade count v) refl (row-good (gsvMade count v) few e)) in
       rw (eq-eqb (row .width) (row .width) refl) at made
 
-  with-read : (count : ℕ) → P (gsvWith t count field)
+  with-read : (count : ℕ) → P (gsvWith S.Refused (S.Gsv t) count field)
   unfolding gsvWith
   with-read count = go (ltb 4 count) refl
     where
       go : (b : Bool) → ltb 4 count ≡ b
-          → P (pick b (refused 4 0) (answerBy refused (gsvRow count) (gsvBeside t count) (gsvRow count .got field 0)))
+          → P (pick b (S.Refused 4 0) (answerBy S.Refused (gsvRow count) (gsvIs t count) (gsvRow count .got field 0)))
       go true q = none 4 0
       go false q = by-row count (ltb-false 4 count q)
 
   pub write-read : (n : ℕ) → P (gsvOf t n field)
-  unfolding gsvOf
   write-read n = with-read (entriesOf n)

@@ -11,5 +11,6 @@ pub mod GsvSame
 pub mod KindLaws
 pub mod Known
 pub mod Maker
+pub mod Refusals
 pub mod Standard
 pub mod Trips

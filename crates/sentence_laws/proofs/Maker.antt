@@ -5,7 +5,7 @@ use Rattle.address.specs.declared.Address.the-variants as A
 use Rattle.address.specs.declared.Pir.the-variants as P
 use Rattle.form.specs.Kind.{faultBy}
 use Rattle.form.specs.Wrong.{nearOf}
-use Rattle.records.specs.declared.Sentence.the-variants as S
+use Rattle.sentence.specs.Sentence as S
 use Rattle.kind_pir_port.specs.Command.{pirprRow}
 use Rattle.kind_pir_port.specs.Reply.{pirpaRow}
 use Rattle.kind_pir_port.proofs.Laws.{lawful-pirpa, lawful-pirpr}

@@ -7,11 +7,11 @@ use native.Mathlib.Omega.{arith}
 use lib.IntN.{ℤ}
 use lib.ListN.{length, drop}
 use Rattle.receiver.specs.declared.Settings.{Settings}
-use Rattle.slots.specs.Slots.{laid}
-use Rattle.slots.specs.Layout.{whole, signed, _then_}
-use Rattle.slots.proofs.Laying.{laid-is}
-use Rattle.slots.proofs.Layouts.{LawfulLayout, lawful-whole, lawful-signed, lawful-shaped, _⊗_}
-use Rattle.slots.proofs.Values.{numbers-back, numbers-many}
+use Rattle.numbers.specs.Numbers.{laid}
+use Rattle.numbers.specs.Layout.{whole, signed, _then_}
+use Rattle.numbers.proofs.Laying.{laid-is}
+use Rattle.numbers.proofs.Layouts.{LawfulLayout, lawful-whole, lawful-signed, lawful-shaped, _⊗_}
+use Rattle.numbers.proofs.Values.{numbers-back, numbers-many}
 use Rattle.settingnumbers.specs.Numbers.{portLayout, settingsLayout, settingNumbers, settingsAt}
 
 lawful-port : LawfulLayout portLayout

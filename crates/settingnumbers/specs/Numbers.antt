@@ -7,8 +7,8 @@ use lib.IntN.{ℤ}
 use lib.ListN.{length}
 use Rattle.receiver.specs.declared.Port.{Port}
 use Rattle.receiver.specs.declared.Settings.{Settings}
-use Rattle.slots.specs.Slots.{isWhole}
-use Rattle.slots.specs.Layout.{Layout, numberAt, whole, signed, _then_, shaped}
+use Rattle.numbers.specs.Numbers.{isWhole}
+use Rattle.numbers.specs.Layout.{Layout, numberAt, whole, signed, _then_, shaped}
 
 abbrev pub portLayout : Layout Port
 portLayout =

@@ -4,7 +4,7 @@ use receiver::Settings;
 ghost use mathlib.Core.Path.{_≡_};
 ghost use lib.Dec.{leb};
 ghost use lib.ListN.{length};
-ghost use Rattle.slots.specs.Slots.{laid};
+ghost use Rattle.numbers.specs.Numbers.{laid};
 ghost use Rattle.settingnumbers.specs.Numbers.{settingNumbers, settingsAt, said};
 
 // Stores the eleven numbers of settings at the start of `out` and answers whether there was room; where there
@@ -26,14 +26,14 @@ pub fn lay(out: &mut [i64], s: Settings) -> bool
         s.glonass as i64,
         s.code as i64,
     ];
-    slots::lay(out, &values)
+    numbers::lay(out, &values)
 }
 
 // Whether numbers say settings: there are eleven, and 32 bits hold the GPS mask.
 pub fn are_said(numbers: &[i64]) -> bool
     ensures { λ r. ⌜ r ≡ said (now (numbers .entry)) ⌝ }
 {
-    (11 <= numbers.len()) & slots::is_whole_at(numbers, 8)
+    (11 <= numbers.len()) & numbers::is_whole_at(numbers, 8)
 }
 
 // The settings that numbers say; one past their end is taken as 0.
@@ -41,22 +41,22 @@ pub fn at(numbers: &[i64]) -> Settings
     ensures { λ r. ⌜ r ≡ settingsAt (now (numbers .entry)) ⌝ }
 {
     let first = Port {
-        rate: slots::whole_at(numbers, 0),
-        protocol: slots::whole_at(numbers, 1),
-        mask: slots::whole_at(numbers, 2),
+        rate: numbers::whole_at(numbers, 0),
+        protocol: numbers::whole_at(numbers, 1),
+        mask: numbers::whole_at(numbers, 2),
     };
     let second = Port {
-        rate: slots::whole_at(numbers, 3),
-        protocol: slots::whole_at(numbers, 4),
-        mask: slots::whole_at(numbers, 5),
+        rate: numbers::whole_at(numbers, 3),
+        protocol: numbers::whole_at(numbers, 4),
+        mask: numbers::whole_at(numbers, 5),
     };
     Settings {
         first,
         second,
-        datum: slots::whole_at(numbers, 6),
-        zone: slots::signed_at(numbers, 7),
-        gps: slots::whole_at(numbers, 8),
-        glonass: slots::whole_at(numbers, 9),
-        code: slots::whole_at(numbers, 10),
+        datum: numbers::whole_at(numbers, 6),
+        zone: numbers::signed_at(numbers, 7),
+        gps: numbers::whole_at(numbers, 8),
+        glonass: numbers::whole_at(numbers, 9),
+        code: numbers::whole_at(numbers, 10),
     }
 }

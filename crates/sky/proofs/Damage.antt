@@ -12,14 +12,13 @@ use Rattle.lines.specs.Edit.{OneByte}
 use Rattle.lines.specs.Reader.{stop, readLines}
 use Rattle.lines.specs.Caught.{NotRefused, Caught}
 use Rattle.lines.proofs.Point3 as Point3
-use Rattle.records.specs.declared.Entry.{Entry}
-use Rattle.records.specs.declared.Reading.{Reading}
-use Rattle.reading.proofs.Order as Order
+use Rattle.kind_gsv.specs.declared.Entry.{Entry}
+use Rattle.sentence.proofs.Order as Order
 use Rattle.sky.specs.Group.{Answer, whole, refused, Seen, ruled, rule, ended, groupOf}
 
 pub line-first : (q : Option Seen) (k : ℕ) (l : List ℕ) → (lineRefusal l ≡ 0 → ⊥) → rule q k l ≡ stop (lineRefusal l) 0
 unfolding rule
-line-first q k l h = ap (λ (r : Reading). ruled q k (r .sentence) (r .gsv)) (Order.refused l h)
+line-first q k l h = ap (ruled q k) (Order.refused l h)
 
 abbrev isWhole : Answer → Bool
 isWhole (whole t es) = true

@@ -11,11 +11,11 @@ use Rattle.address.specs.declared.Talker.{Talker}
 use Rattle.address.specs.declared.Talker.the-variants.{Ga, Gl, Gn, Gp, Gq}
 use Rattle.digits.specs.Pick.{pick}
 use Rattle.lines.specs.Reader.{next, readLines, Step, stop}
-use Rattle.records.specs.declared.Entry.{Entry}
-use Rattle.records.specs.declared.Gsv.{Gsv}
-use Rattle.records.specs.declared.Sentence.{Sentence}
-use Rattle.records.specs.declared.Sentence.the-variants as S
-use Rattle.reading.specs.Lines.{readLine}
+use Rattle.kind_gsv.specs.declared.Entry.{Entry}
+use Rattle.kind_gsv.specs.declared.Gsv.{Gsv}
+use Rattle.sentence.specs.Sentence as S
+use Rattle.sentence.specs.Sentence.{Sentence}
+use Rattle.sentence.specs.Lines.{readLine}
 
 -- A whole sky, or number, line and field of the refusal.
 pub data Answer : Type 0 where
@@ -80,26 +80,26 @@ unfoldable pub gsvRule : Option Seen → ℕ → Talker → Gsv → Step (Option
 gsvRule q k t v = pick (follows q k t v) (pick (repeats (entriesOf q) (usedOf v)) (stop 7 0) (next (some (seen q t v)))) (stop 6 0)
 
 -- A line is read in full first: its own 1 to 5 come before 6.
-abbrev pub ruled : Option Seen → ℕ → Sentence → Gsv → Step (Option Seen)
-ruled q k (S.Refused n f) v = stop n f
-ruled q k (S.Gsv t) v = gsvRule q k t v
-ruled q k (S.Gga t r) v = stop 6 0
-ruled q k (S.Gll t r) v = stop 6 0
-ruled q k (S.Gsa t) v = stop 6 0
-ruled q k (S.Rmc t r) v = stop 6 0
-ruled q k (S.Vtg t r) v = stop 6 0
-ruled q k (S.Zda t r) v = stop 6 0
-ruled q k (S.Pr r) v = stop 6 0
-ruled q k (S.Tr r) v = stop 6 0
-ruled q k (S.Sr r) v = stop 6 0
-ruled q k S.Er v = stop 6 0
-ruled q k (S.Pa r) v = stop 6 0
-ruled q k (S.Ta r) v = stop 6 0
-ruled q k (S.Sa r) v = stop 6 0
-ruled q k (S.Ea r) v = stop 6 0
+abbrev pub ruled : Option Seen → ℕ → Sentence → Step (Option Seen)
+ruled q k (S.Refused n f) = stop n f
+ruled q k (S.Gsv t v) = gsvRule q k t v
+ruled q k (S.Gga t r) = stop 6 0
+ruled q k (S.Gll t r) = stop 6 0
+ruled q k (S.Gsa t r) = stop 6 0
+ruled q k (S.Rmc t r) = stop 6 0
+ruled q k (S.Vtg t r) = stop 6 0
+ruled q k (S.Zda t r) = stop 6 0
+ruled q k (S.Pr r) = stop 6 0
+ruled q k (S.Tr r) = stop 6 0
+ruled q k (S.Sr r) = stop 6 0
+ruled q k S.Er = stop 6 0
+ruled q k (S.Pa r) = stop 6 0
+ruled q k (S.Ta r) = stop 6 0
+ruled q k (S.Sa r) = stop 6 0
+ruled q k (S.Ea r) = stop 6 0
 
 unfoldable pub rule : Option Seen → ℕ → List ℕ → Step (Option Seen)
-rule q k l = ruled q k (readLine l .sentence) (readLine l .gsv)
+rule q k l = ruled q k (readLine l)
 
 -- Where the lines end, before line k: too soon gives 6 at the next line.
 unfoldable pub ended : Option Seen → ℕ → Answer

@@ -7,7 +7,7 @@ use mathlib.Core.Bool.{_&&_, Bool, cond, true}
 use lib.Dec.{eqb}
 use lib.ListN.{getD, length, set}
 use Rattle.digits.specs.Pick.{pick}
-use Rattle.records.specs.declared.Entry.{Entry}
+use Rattle.kind_gsv.specs.declared.Entry.{Entry}
 use Rattle.sky.specs.Group.{numbered}
 
 -- 1 where a number is among the entries.

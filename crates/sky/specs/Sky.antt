@@ -3,8 +3,8 @@
 use Prim.Native.Nat.{ℕ, _-_}
 use mathlib.Core.List.{List, _++_}
 use lib.ListN.{length, replicate}
-use Rattle.records.specs.declared.Entry.{Entry}
-use Rattle.records.specs.Blank.{blankEntry}
+use Rattle.kind_gsv.specs.declared.Entry.{Entry}
+use Rattle.kind_gsv.specs.Blank.{blankEntry}
 use Rattle.sky.specs.declared.Sky.{Sky}
 use Rattle.sky.specs.declared.Table.{Table}
 use Rattle.sky.specs.declared.Whose.the-variants.{Nobody, Of}

@@ -10,14 +10,14 @@ use lib.ListN.{drop, length, take}
 use Rattle.line.specs.Line.{asLine}
 use Rattle.address.specs.declared.Talker.{Talker}
 use Rattle.lines.specs.Cut.{joined}
-use Rattle.records.specs.declared.Entry.{Entry}
-use Rattle.records.specs.declared.Gsv.{Gsv}
+use Rattle.kind_gsv.specs.declared.Entry.{Entry}
+use Rattle.kind_gsv.specs.declared.Gsv.{Gsv}
 use Rattle.form.specs.Wrong.{firstWrong}
 use Rattle.frame.specs.declared.Written.{Written}
 use Rattle.digits.specs.Pick.{pick}
 use Rattle.frame.specs.Written.{refused, wrote}
 use Rattle.kind_gsv.specs.Writing.{entryAfters, gsvBody}
-use Rattle.records.specs.Blank.{isBlank}
+use Rattle.kind_gsv.specs.Blank.{isBlank}
 use Rattle.sky.specs.declared.Table.{Table}
 use Rattle.sky.specs.Group.{entriesAt, linesFor, numbered}
 

@@ -3,7 +3,7 @@
 pub mod marks;
 
 use address::Talker;
-use records::Entry;
+use kind_gsv::Entry;
 ghost use mathlib.Core.Path.{_≡_};
 ghost use Prim.Native.Nat.{_≤_};
 ghost use Rattle.sky.specs.Group.{linesFor, entriesAt};

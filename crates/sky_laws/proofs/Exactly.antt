@@ -13,7 +13,7 @@ use Rattle.address.specs.declared.Talker.the-variants.{Gp}
 use Rattle.form.specs.Values.{noMaybe, outside, rangeWrong}
 use Rattle.form.proofs.Ranged.{in-outside}
 use Rattle.form.proofs.Zeros.{zero-all}
-use Rattle.records.specs.declared.Entry.{Entry}
+use Rattle.kind_gsv.specs.declared.Entry.{Entry}
 use Rattle.kind_gsv.specs.Writing.{entryAfters}
 use Rattle.sky.specs.Group.{groupOf, numbered, repeats, whole}
 use Rattle.sky.specs.Sky.{tableOf}

@@ -1,7 +1,6 @@
 -- A group has to be read to its last line. Its lines up to one before the last are no group: each is taken as before, and where they end
--- the
--- announced last line is still to come. And the first line alone does not say what the group is: two groups of five satellites differ only
--- in the fifth, which stands on line 2.
+-- the announced last line is still to come. And the first line alone does not say what the group is: two groups of five satellites differ
+-- only in the fifth, which stands on line 2.
 use Prim.Native.Nat.{_+_, _<_, _≤_, ℕ}
 use mathlib.Core.Bool.{false}
 use mathlib.Core.List.{[], _++_, _∷_, List}
@@ -19,11 +18,10 @@ use Rattle.lines.specs.Reader.{readFrom, readLines}
 use Rattle.lines.proofs.CutBack.{cut-back, Endings, passes-ending}
 use Rattle.address.specs.declared.Talker.{Talker}
 use Rattle.address.specs.declared.Talker.the-variants.{Gp}
-use Rattle.records.specs.Blank.{blankEntry}
-use Rattle.records.specs.declared.Entry.{Entry}
-use Rattle.records.specs.declared.Gsv.{Gsv}
+use Rattle.kind_gsv.specs.Blank.{blankEntry}
+use Rattle.kind_gsv.specs.declared.Entry.{Entry}
+use Rattle.kind_gsv.specs.declared.Gsv.{Gsv}
 use Rattle.kind_gsv.specs.Writing.{gsvBody}
-use Rattle.reading.specs.Lines.{readLine}
 use Rattle.sky.specs.Group.{Answer, ended, follows, groupOf, linesFor, numbered, refused, repeats, sameTalker, Seen, seen, whole}
 use Rattle.sky.specs.Sky.{tableOf}
 use Rattle.sky.specs.Table.{groupText, lineAt}
@@ -38,7 +36,7 @@ module _ (t : Talker) (es : List Entry) where
   unfolding ended follows
   too-soon none k l ms x = refl
   too-soon (some s) k l ms x =
-      let v : Gsv = readLine l .gsv in
+      let v : Gsv = x .gsv in
       let g = and-right (sameTalker (s .talker) (x .talker)) _ (x .right) in
       let n = eqb-true (s .lines) (v .lines) (and-left _ _ g) in
       let h = place-to k v (and-right (eqb (s .satellites) (v .satellites)) _ (and-right (eqb (s .lines) (v .lines)) _ g)) in
@@ -50,7 +48,7 @@ module _ (t : Talker) (es : List Entry) where
   half [] l ms q k e = too-soon q k l ms (took t es q k l ms e) ∙ ap (λ (n : ℕ). refused 6 n 0) (omega arith)
   half (a ∷ ls) l ms q k e =
       let x = took t es q k a (ls ++ (l ∷ ms)) e in
-      let s : Seen = seen q (x .talker) (readLine a .gsv) in
+      let s : Seen = seen q (x .talker) (x .gsv) in
       read-on q k a ls s (took-next t es q k a (ls ++ (l ∷ ms)) x) ∙ half ls l ms (some s) (k + 1) (x .rest)
       ∙ ap (λ (n : ℕ). refused 6 n 0) (omega arith)
 
@@ -59,7 +57,7 @@ module _ (t : Talker) (es : List Entry) where
   all-end [] ms q k e = tt
   all-end (l ∷ ls) ms q k e =
       let x = took t es q k l (ls ++ ms) e in
-      (passes-ending l (gsv-passes l (x .talker) (x .reads)), all-end ls ms (some (seen q (x .talker) (readLine l .gsv))) (k + 1) (x .rest))
+      (passes-ending l (gsv-passes l (x .talker) (x .gsv) (x .reads)), all-end ls ms (some (seen q (x .talker) (x .gsv))) (k + 1) (x .rest))
 
 -- Of a whole group, the lines up to any before the last are refused with 6 at the next line.
 pub half-refused : (g : List ℕ) (t : Talker) (es : List Entry) (ls : List (List ℕ)) (l : List ℕ) (ms : List (List ℕ))

@@ -13,8 +13,8 @@ use Rattle.digits.specs.Pick.{pick}
 use Rattle.digits.proofs.Bools.{and-left, and-right}
 use Rattle.frame.specs.Written.{refused, wrote}
 use Rattle.frame.specs.declared.Written.{Written}
-use Rattle.records.specs.Blank.{blankEntry, isBlank}
-use Rattle.records.specs.declared.Entry.{Entry}
+use Rattle.kind_gsv.specs.Blank.{blankEntry, isBlank}
+use Rattle.kind_gsv.specs.declared.Entry.{Entry}
 use Rattle.kind_gsv.proofs.EntryLaws.{blank-is}
 use Rattle.sky.specs.Group.{numbered, repeats}
 use Rattle.sky.specs.Sky.{tableOf}

@@ -16,9 +16,9 @@ use Rattle.form.proofs.Lists.{all-four}
 use Rattle.form.proofs.Ranged.{in-outside}
 use Rattle.form.proofs.Values.{inside}
 use Rattle.form.proofs.Zeros.{all-zero, Zero, zero-all}
-use Rattle.records.specs.Blank.{blankEntry, isBlank}
-use Rattle.records.specs.declared.Entry.{Entry}
-use Rattle.records.specs.declared.Gsv.{Gsv}
+use Rattle.kind_gsv.specs.Blank.{blankEntry, isBlank}
+use Rattle.kind_gsv.specs.declared.Entry.{Entry}
+use Rattle.kind_gsv.specs.declared.Gsv.{Gsv}
 use Rattle.kind_gsv.specs.Writing.{entryAfters, entryOf, gsvWrong, restBlank}
 use Rattle.kind_gsv.proofs.EntryLaws.{blank-is}
 use Rattle.kind_gsv.proofs.GoodLaws.{Good}

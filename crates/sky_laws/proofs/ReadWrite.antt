@@ -16,14 +16,13 @@ use Rattle.lines.specs.Cut.{cutLines, joined}
 use Rattle.lines.specs.Reader.{next, readFrom, readLines}
 use Rattle.lines.proofs.CutBack.{cut-back, Ending, Endings, passes-ending}
 use Rattle.address.specs.declared.Talker.{Talker}
-use Rattle.records.specs.declared.Entry.{Entry}
-use Rattle.records.specs.declared.Gsv.{Gsv}
-use Rattle.records.specs.declared.Reading.{Reading}
-use Rattle.records.specs.declared.Sentence.the-variants as S
+use Rattle.kind_gsv.specs.declared.Entry.{Entry}
+use Rattle.kind_gsv.specs.declared.Gsv.{Gsv}
 use Rattle.kind_gsv.specs.Writing.{gsvBody}
-use Rattle.kind_gsv.proofs.Laws as KGsv
-use Rattle.reading.specs.Lines.{readLine}
-use Rattle.reading.proofs.Order as Order
+use Rattle.sentence.specs.Lines.{readLine}
+use Rattle.sentence.specs.Sentence as S
+use Rattle.sentence.proofs.OnlyGsv.{no-gsv}
+use Rattle.sentence.proofs.Order as Order
 use Rattle.sentence_laws.proofs.Gsv as TGsv
 use Rattle.sky.specs.Group.{ended, entriesAt, entriesOf, follows, groupOf, gsvRule, inPlace, linesFor, repeats, rule, ruled, sameTalker}
 use Rattle.sky.specs.Group.{Seen, talkerNo, usedOf, whole}
@@ -36,16 +35,12 @@ use Rattle.sky_laws.proofs.LineGood.{filled-many, line-good, line-is, l
 use Rattle.sky_laws.proofs.Took.{answerFrom, read-on}
 
 -- A line that reads as a GSV sentence passed the line rule.
-pub gsv-passes : (l : List ℕ) (t : Talker) → readLine l .sentence ≡ S.Gsv t → lineRefusal l ≡ 0
-gsv-passes l t e = go (eqb (lineRefusal l) 0) refl
+pub gsv-passes : (l : List ℕ) (t : Talker) (v : Gsv) → readLine l ≡ S.Gsv t v → lineRefusal l ≡ 0
+gsv-passes l t v e = go (eqb (lineRefusal l) 0) refl
   where
     go : (b : Bool) → eqb (lineRefusal l) 0 ≡ b → lineRefusal l ≡ 0
     go true q = eqb-true (lineRefusal l) 0 q
-    go false q =
-        let x : readLine l .sentence ≡ S.Refused (lineRefusal l) 0 =
-        ap (λ (r : Reading). r .sentence) (Order.refused l (eqb-false (lineRefusal l) 0 q)) in
-        let z : _≡_ {A = ℕ} 0 1 = cc in
-        let y : ⊥ = omega arith in absurd y
+    go false q = no-gsv (lineRefusal l) 0 t v (sym (Order.refused l (eqb-false (lineRefusal l) 0 q)) ∙ e)
 
 same-talker : (t : Talker) → sameTalker t t ≡ true
 unfolding sameTalker
@@ -76,7 +71,7 @@ module _ (t : Talker) (es : List Entry) (s : InRange es) where
     abbrev left : List Entry
     left = drop (4 * (k - 1)) es
 
-    reads : readLine (written k) ≡ KGsv.theGsv t line
+    reads : readLine (written k) ≡ S.Gsv t line
     reads =
         ap (λ (r : Gsv). readLine (asLine (gsvBody t r))) (line-is es (s .few) k from to)
         ∙ TGsv.read-write t line (filled-many 4 left) (line-good es (s .few) k from to (s .each))
@@ -107,11 +102,11 @@ module _ (t : Talker) (es : List Entry) (s : InRange es) where
     taken q p f =
         let g : repeats (entriesOf q) (usedOf line) ≡ false = ap (λ (l : List Entry). repeats l (usedOf line)) p ∙ fresh in
         let a : entriesOf q ++ usedOf line ≡ upTo (k + 1) = ap (λ (l : List Entry). l ++ usedOf line) p ∙ more in
-        ap (λ (r : Reading). ruled q k (r .sentence) (r .gsv)) reads
+        ap (ruled q k) reads
         ∙ rw (f, g) (ap (λ (l : List Entry). next (some (record { talker = t; lines = last; satellites = length es; entries = l }))) a)
 
     ends : Ending (written k)
-    ends = passes-ending (written k) (gsv-passes (written k) t (ap (λ (r : Reading). r .sentence) reads))
+    ends = passes-ending (written k) (gsv-passes (written k) t line reads)
 
   -- Line 1 is the first, and a later one repeats what line 1 said.
   first : follows none 1 t (theLine es 1) ≡ true

@@ -14,11 +14,11 @@ use Rattle.digits.proofs.Bools.{and-left, and-right}
 use Rattle.lines.specs.Reader.{next, onward, readFrom, Step, stop}
 use Rattle.address.specs.declared.Talker.{Talker}
 use Rattle.address.specs.declared.Talker.the-variants.{Ga, Gl, Gn, Gp, Gq}
-use Rattle.records.specs.declared.Entry.{Entry}
-use Rattle.records.specs.declared.Gsv.{Gsv}
-use Rattle.records.specs.declared.Sentence.{Sentence}
-use Rattle.records.specs.declared.Sentence.the-variants as S
-use Rattle.reading.specs.Lines.{readLine}
+use Rattle.kind_gsv.specs.declared.Entry.{Entry}
+use Rattle.kind_gsv.specs.declared.Gsv.{Gsv}
+use Rattle.sentence.specs.Lines.{readLine}
+use Rattle.sentence.specs.Sentence as S
+use Rattle.sentence.specs.Sentence.{Sentence}
 use Rattle.sky.specs.Group.{Answer, ended, entriesAt, entriesOf, follows, gsvRule, inPlace, linesFor, refused, repeats, rule, ruled}
 use Rattle.sky.specs.Group.{sameTalker, Seen, seen, talkerNo, usedOf, whole}
 
@@ -37,39 +37,37 @@ no-whole n k f t es e = let z : _≡_ {A = ℕ} 0 1 = cc in omega arith
 -- A line that was taken on the way to a whole answer.
 pub record Took (t : Talker) (es : List Entry) (q : Option Seen) (k : ℕ) (l : List ℕ) (ls : List (List ℕ)) : Type 0 where
   pub talker : Talker
-  pub reads : readLine l .sentence ≡ S.Gsv talker
-  pub right : follows q k talker (readLine l .gsv) ≡ true
-  pub fresh : repeats (entriesOf q) (usedOf (readLine l .gsv)) ≡ false
-  pub rest : answerFrom (some (seen q talker (readLine l .gsv))) (k + 1) ls ≡ whole t es
+  pub gsv : Gsv
+  pub reads : readLine l ≡ S.Gsv talker gsv
+  pub right : follows q k talker gsv ≡ true
+  pub fresh : repeats (entriesOf q) (usedOf gsv) ≡ false
+  pub rest : answerFrom (some (seen q talker gsv)) (k + 1) ls ≡ whole t es
 
 module _ (t : Talker) (es : List Entry) (q : Option Seen) (k : ℕ) (l : List ℕ) (ls : List (List ℕ)) where
-  abbrev v : Gsv
-  v = readLine l .gsv
-
   -- The answer after a step is whole.
   abbrev Leads : Step (Option Seen) → Type 0
   Leads x = onward refused x k (λ (r : Option Seen). answerFrom r (k + 1) ls) ≡ whole t es
 
-  took-gsv : (u : Talker) → readLine l .sentence ≡ S.Gsv u → Leads (gsvRule q k u v) → Took t es q k l ls
+  took-gsv : (u : Talker) (v : Gsv) → readLine l ≡ S.Gsv u v → Leads (gsvRule q k u v) → Took t es q k l ls
   unfolding gsvRule
-  took-gsv u p = go (follows q k u v) (repeats (entriesOf q) (usedOf v)) refl refl
+  took-gsv u v p = go (follows q k u v) (repeats (entriesOf q) (usedOf v)) refl refl
     where
       go : (a b : Bool) → follows q k u v ≡ a → repeats (entriesOf q) (usedOf v) ≡ b
           → Leads (pick a (pick b (stop 7 0) (next (some (seen q u v)))) (stop 6 0)) → Took t es q k l ls
       go true true f g i = absurd (no-whole 7 k 0 t es i)
-      go true false f g i = record { talker = u; reads = p; right = f; fresh = g; rest = i }
+      go true false f g i = record { talker = u; gsv = v; reads = p; right = f; fresh = g; rest = i }
       go false b f g i = absurd (no-whole 6 k 0 t es i)
 
   pub took : answerFrom q k (l ∷ ls) ≡ whole t es → Took t es q k l ls
   unfolding readFrom rule
-  took = go (readLine l .sentence) refl
+  took = go (readLine l) refl
     where
-      go : (x : Sentence) → readLine l .sentence ≡ x → Leads (ruled q k x v) → Took t es q k l ls
-      go (S.Gsv u) p i = took-gsv u p i
+      go : (x : Sentence) → readLine l ≡ x → Leads (ruled q k x) → Took t es q k l ls
+      go (S.Gsv u v) p i = took-gsv u v p i
       go (S.Refused n f) p i = absurd (no-whole n k f t es i)
       go (S.Gga u r) p i = absurd (no-whole 6 k 0 t es i)
       go (S.Gll u r) p i = absurd (no-whole 6 k 0 t es i)
-      go (S.Gsa u) p i = absurd (no-whole 6 k 0 t es i)
+      go (S.Gsa u r) p i = absurd (no-whole 6 k 0 t es i)
       go (S.Rmc u r) p i = absurd (no-whole 6 k 0 t es i)
       go (S.Vtg u r) p i = absurd (no-whole 6 k 0 t es i)
       go (S.Zda u r) p i = absurd (no-whole 6 k 0 t es i)
@@ -83,9 +81,9 @@ module _ (t : Talker) (es : List Entry) (q : Option Seen) (k : ℕ) (l : List �
       go (S.Ea r) p i = absurd (no-whole 6 k 0 t es i)
 
   -- And so the reader goes on.
-  pub took-next : (x : Took t es q k l ls) → rule q k l ≡ next (some (seen q (x .talker) v))
+  pub took-next : (x : Took t es q k l ls) → rule q k l ≡ next (some (seen q (x .talker) (x .gsv)))
   unfolding rule gsvRule
-  took-next x = ap (λ (y : Sentence). ruled q k y v) (x .reads) ∙ rw (x .right, x .fresh)
+  took-next x = ap (ruled q k) (x .reads) ∙ rw (x .right, x .fresh)
 
 -- Talkers with one number are one.
 abbrev ofNo : ℕ → Talker
@@ -108,13 +106,14 @@ talkers-same t u e = sym (of-no t) ∙ ap ofNo (eqb-true (talkerNo t) (talkerNo 
 
 -- Line k of n satellites of a talker, behind some entries.
 pub record Line (t : Talker) (n k : ℕ) (before : List Entry) (l : List ℕ) : Type 0 where
-  pub reads : readLine l .sentence ≡ S.Gsv t
-  pub lines : readLine l .gsv .lines ≡ linesFor n
-  pub line : readLine l .gsv .line ≡ k
-  pub satellites : readLine l .gsv .satellites ≡ n
-  pub count : readLine l .gsv .count ≡ entriesAt n k
+  pub gsv : Gsv
+  pub reads : readLine l ≡ S.Gsv t gsv
+  pub lines : gsv .lines ≡ linesFor n
+  pub line : gsv .line ≡ k
+  pub satellites : gsv .satellites ≡ n
+  pub count : gsv .count ≡ entriesAt n k
   pub no-later : k ≤ linesFor n
-  pub fresh : repeats before (usedOf (readLine l .gsv)) ≡ false
+  pub fresh : repeats before (usedOf gsv) ≡ false
 
 -- What was seen then.
 abbrev pub seenSo : Talker → ℕ → List Entry → Option Seen
@@ -123,7 +122,7 @@ seenSo u n before = some (record { talker = u; lines = linesFor n; satellites = 
 -- A line that was taken, and the answer of the lines behind it.
 pub record Next (t : Talker) (es : List Entry) (u : Talker) (n k : ℕ) (before : List Entry) (l : List ℕ) (ls : List (List ℕ)) : Type 0 where
   pub taken : Line u n k before l
-  pub rest : answerFrom (seenSo u n (before ++ usedOf (readLine l .gsv))) (k + 1) ls ≡ whole t es
+  pub rest : answerFrom (seenSo u n (before ++ usedOf (taken .gsv))) (k + 1) ls ≡ whole t es
 
 module _ (k : ℕ) (v : Gsv) (h : inPlace k v ≡ true) where
   place-line : v .line ≡ k
@@ -139,50 +138,50 @@ module _ (k : ℕ) (v : Gsv) (h : inPlace k v ≡ true) where
   place-count = eqb-true (v .count) _ (and-right (leb k (v .lines)) _ (and-right (eqb (v .line) k) _ h))
 
 module _ (t : Talker) (es : List Entry) (l : List ℕ) (ls : List (List ℕ)) where
-  abbrev line : Gsv
-  line = readLine l .gsv
-
   -- What was seen by what the line itself says.
-  abbrev said : Talker → List Entry → Option Seen
-  said u before = some (record { talker = u; lines = line .lines; satellites = line .satellites; entries = before })
+  abbrev said : Talker → Gsv → List Entry → Option Seen
+  said u v before = some (record { talker = u; lines = v .lines; satellites = v .satellites; entries = before })
 
-  made : (u : Talker) (n k : ℕ) (before : List Entry) → readLine l .sentence ≡ S.Gsv u → line .lines ≡ linesFor n → line .satellites ≡ n
-      → inPlace k line ≡ true
-      → repeats before (usedOf line) ≡ false → answerFrom (said u (before ++ usedOf line)) (k + 1) ls ≡ whole t es
+  made : (u : Talker) (v : Gsv) (n k : ℕ) (before : List Entry) → readLine l ≡ S.Gsv u v → v .lines ≡ linesFor n → v .satellites ≡ n
+      → inPlace k v ≡ true
+      → repeats before (usedOf v) ≡ false → answerFrom (said u v (before ++ usedOf v)) (k + 1) ls ≡ whole t es
       → Next t es u n k before l ls
-  made u n k before r a b h f e =
+  made u v n k before r a b h f e =
       record {
         taken = record {
+          gsv = v;
           reads = r;
           lines = a;
-          line = place-line k line h;
+          line = place-line k v h;
           satellites = b;
-          count = place-count k line h ∙ ap (λ (m : ℕ). entriesAt m k) b;
-          no-later = subst (λ (m : ℕ). k ≤ m) a (place-to k line h);
+          count = place-count k v h ∙ ap (λ (m : ℕ). entriesAt m k) b;
+          no-later = subst (λ (m : ℕ). k ≤ m) a (place-to k v h);
           fresh = f;
         };
         rest = rw (a, b) at e;
       }
 
-  pub first-line : answerFrom none 1 (l ∷ ls) ≡ whole t es → (u : Talker) × Next t es u (line .satellites) 1 [] l ls
+  pub first-line : answerFrom none 1 (l ∷ ls) ≡ whole t es → (u : Talker) × (n : ℕ) × Next t es u n 1 [] l ls
   unfolding follows
   first-line e =
       let x = took t es none 1 l ls e in
-      let a = eqb-true (line .lines) (linesFor (line .satellites)) (and-left _ _ (x .right)) in
-      let h = and-right (eqb (line .lines) (linesFor (line .satellites))) _ (x .right) in
-      (x .talker, made (x .talker) (line .satellites) 1 [] (x .reads) a refl h (x .fresh) (x .rest))
+      let v = x .gsv in
+      let a = eqb-true (v .lines) (linesFor (v .satellites)) (and-left _ _ (x .right)) in
+      let h = and-right (eqb (v .lines) (linesFor (v .satellites))) _ (x .right) in
+      (x .talker, v .satellites, made (x .talker) v (v .satellites) 1 [] (x .reads) a refl h (x .fresh) (x .rest))
 
   pub next-line : (u : Talker) (n k : ℕ) (before : List Entry) → answerFrom (seenSo u n before) k (l ∷ ls) ≡ whole t es
       → Next t es u n k before l ls
   unfolding follows
   next-line u n k before e =
       let x = took t es (seenSo u n before) k l ls e in
+      let v = x .gsv in
       let f = and-right (sameTalker u (x .talker)) _ (x .right) in
-      let g = and-right (eqb (linesFor n) (line .lines)) _ f in
+      let g = and-right (eqb (linesFor n) (v .lines)) _ f in
       let w = sym (talkers-same u (x .talker) (and-left _ _ (x .right))) in
-      made u n k before (x .reads ∙ ap S.Gsv w)
-      (sym (eqb-true (linesFor n) (line .lines) (and-left _ _ f)))
-      (sym (eqb-true n (line .satellites) (and-left _ _ g)))
-      (and-right (eqb n (line .satellites)) _ g)
+      made u v n k before (x .reads ∙ ap (λ (y : Talker). S.Gsv y v) w)
+      (sym (eqb-true (linesFor n) (v .lines) (and-left _ _ f)))
+      (sym (eqb-true n (v .satellites) (and-left _ _ g)))
+      (and-right (eqb n (v .satellites)) _ g)
       (x .fresh)
-      (subst (λ (y : Talker). answerFrom (said y (before ++ usedOf line)) (k + 1) ls ≡ whole t es) w (x .rest))
+      (subst (λ (y : Talker). answerFrom (said y v (before ++ usedOf v)) (k + 1) ls ≡ whole t es) w (x .rest))

@@ -17,11 +17,10 @@ use Rattle.lines.specs.Cut.{cutLines, joined}
 use Rattle.lines.specs.Reader.{readFrom, readLines}
 use Rattle.lines.proofs.CutLaws.{cut-joined}
 use Rattle.address.specs.declared.Talker.{Talker}
-use Rattle.records.specs.declared.Entry.{Entry}
-use Rattle.records.specs.declared.Gsv.{Gsv}
+use Rattle.kind_gsv.specs.declared.Entry.{Entry}
+use Rattle.kind_gsv.specs.declared.Gsv.{Gsv}
 use Rattle.kind_gsv.specs.Writing.{gsvBody}
 use Rattle.kind_gsv.proofs.GoodLaws.{Good}
-use Rattle.reading.specs.Lines.{readLine}
 use Rattle.sentence_laws.proofs.GsvSame as GsvSame
 use Rattle.sky.specs.Group.{ended, entriesAt, groupOf, linesFor, refused, repeats, usedOf, whole}
 use Rattle.sky.specs.Sky.{tableOf}
@@ -55,10 +54,10 @@ same-record v a b c d l p q r s u = rw (← p, ← q, ← r, ← s, ← u)
 
 module _ (t : Talker) (n k : ℕ) (before : List Entry) (h : Held n k before) (l : List ℕ) (line : Line t n k before l) where
   abbrev v : Gsv
-  v = readLine l .gsv
+  v = line .gsv
 
   good : (length (v .entries) ≡ 4) × Good v
-  good = GsvSame.gsv-good l t (line .reads)
+  good = GsvSame.gsv-good l t v (line .reads)
 
   added : length (usedOf v) ≡ entriesAt n k
   added = length-take-le (v .count) (v .entries) (omega (arith, good .0, good .1 .few)) ∙ line .count
@@ -114,7 +113,7 @@ module _ (t : Talker) (n k : ℕ) (before : List Entry) (h : Held n k before) (l
           in-range = e .in-range;
           last = omega (arith, e .last);
           lines = ap₂ (λ (x : List ℕ) (y : List (List ℕ)). x ∷ y) (ap (λ (r : Gsv). asLine (gsvBody t r)) line-same
-              ∙ GsvSame.same-bytes l t (line .reads)) (e .lines);
+              ∙ GsvSame.same-bytes l t v (line .reads)) (e .lines);
         }
 
 -- The lines behind line 1.
@@ -148,15 +147,15 @@ module _ (t : Talker) (es : List Entry) (u : Talker) (n : ℕ) where
   walk [] k before h e = let x = over k before e in (x .1, at-end k before h (x .0) (x .2))
   walk (l ∷ ls) k before h e =
       let x = next-line t es l ls u n k before e in
-      let y = walk ls (k + 1) (before ++ usedOf (readLine l .gsv)) (held-next u n k before h l (x .taken)) (x .rest) in
+      let y = walk ls (k + 1) (before ++ usedOf (x .taken .gsv)) (held-next u n k before h l (x .taken)) (x .rest) in
       (y .0, ends-with u n k before h l (x .taken) es ls (y .1))
 
 -- Before line 1 nothing was seen, and it announces at most nine lines.
 held-none : (t : Talker) (n : ℕ) (l : List ℕ) → Line t n 1 [] l → Held n 1 []
 unfolding repeats
 held-none t n l line =
-    let g = GsvSame.gsv-good l t (line .reads) in
-    let nine = at-most-nine (readLine l .gsv) (g .0) (g .1) in
+    let g = GsvSame.gsv-good l t (line .gsv) (line .reads) in
+    let nine = at-most-nine (line .gsv) (g .0) (g .1) in
     record {
       from = lit≤ tt;
       few = few-satellites n
@@ -175,10 +174,10 @@ module _ (t : Talker) (es : List Entry) where
   all-lines (l ∷ ls) e =
       let x = first-line t es l ls e in
       let u = x .0 in
-      let n = readLine l .gsv .satellites in
-      let line = x .1 .taken in
+      let n = x .1 in
+      let line = x .2 .taken in
       let h = held-none u n l line in
-      let y = walk t es u n ls 2 (usedOf (readLine l .gsv)) (held-next u n 1 [] h l line) (x .1 .rest) in
+      let y = walk t es u n ls 2 (usedOf (line .gsv)) (held-next u n 1 [] h l line) (x .2 .rest) in
       let z = ends-with u n 1 [] h l line es ls (y .1) in
       let m : linesFor (length es) ≡ length (l ∷ ls) = ap linesFor (z .many) ∙ omega (arith, z .last) in (
         z .in-range,

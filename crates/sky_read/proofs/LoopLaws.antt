@@ -16,9 +16,8 @@ use Rattle.lines.specs.Cut.{cutRest, lineWidth}
 use Rattle.lines.specs.Reader.{next, readFrom, stop}
 use Rattle.lines.proofs.ReadOn.{read-end, read-next, read-none, read-start, read-stop}
 use Rattle.address.specs.declared.Talker.{Talker}
-use Rattle.records.specs.Blank.{blankEntry}
-use Rattle.records.specs.declared.Entry.{Entry}
-use Rattle.records.specs.declared.Gsv.{Gsv}
+use Rattle.kind_gsv.specs.Blank.{blankEntry}
+use Rattle.kind_gsv.specs.declared.Entry.{Entry}
 use Rattle.sky.specs.Group as Group
 use Rattle.sky.specs.Group.{ended, entriesOf, groupOf, refused, rule, usedOf, whole}
 use Rattle.sky.specs.Sky.{refusedSky, skyOf}
@@ -109,7 +108,7 @@ module _ (s : List ℕ) (entries : List Entry) (seen : List ℕ) (head : Head) (
       is-taken = st .taken (g .es) (g .before) t q
 
       is-sound : Sound (r .gsv)
-      is-sound = subst (λ (v : Gsv). Sound v) (sym (is-taken .record-of)) (sound (take (e - at) (drop at s)) t (is-taken .read))
+      is-sound = sound (take (e - at) (drop at s)) t (r .gsv) (is-taken .read)
 
       pub sized : Sized k (length (g .es)) t (r .gsv)
       sized = follows-sized k (length (g .es)) t (r .gsv) is-sound head (g .es) (is-taken .fits) (g .size)

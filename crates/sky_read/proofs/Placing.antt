@@ -7,9 +7,9 @@ use native.Mathlib.Omega.{arith}
 use lib.ListN.{getD, length, length-append, replicate, set}
 use lib.Seq.{append-snoc, length-take-le, set-at}
 use Rattle.form.proofs.Lists.{all-four}
-use Rattle.records.specs.Blank.{blankEntry}
-use Rattle.records.specs.declared.Entry.{Entry}
-use Rattle.records.specs.declared.Gsv.{Gsv}
+use Rattle.kind_gsv.specs.Blank.{blankEntry}
+use Rattle.kind_gsv.specs.declared.Entry.{Entry}
+use Rattle.kind_gsv.specs.declared.Gsv.{Gsv}
 use Rattle.sky.specs.Group.{usedOf}
 use Rattle.sky_read.specs.Steps.{Sound}
 

@@ -7,9 +7,9 @@ use native.Mathlib.Omega.{arith}
 use lib.Dec.{ltb}
 use lib.ListN.{getD, length, length-set, take}
 use Rattle.form.proofs.Lists.{all-four}
-use Rattle.records.specs.Blank.{blankEntry}
-use Rattle.records.specs.declared.Entry.{Entry}
-use Rattle.records.specs.declared.Gsv.{Gsv}
+use Rattle.kind_gsv.specs.Blank.{blankEntry}
+use Rattle.kind_gsv.specs.declared.Entry.{Entry}
+use Rattle.kind_gsv.specs.declared.Gsv.{Gsv}
 use Rattle.sky.specs.Group.{numbered, repeats, usedOf}
 use Rattle.sky.specs.Marks.{hadIf, HasMark, markedIf, Marks}
 use Rattle.sky.proofs.MarkLaws.{ifUsed, One, one-mark}

@@ -8,8 +8,8 @@ use lib.Dec.{eqb, leb}
 use borrow.Author.Tests.{eqb-true, leb-true}
 use Rattle.digits.proofs.Bools.{and-left, and-right}
 use Rattle.address.specs.declared.Talker.{Talker}
-use Rattle.records.specs.declared.Entry.{Entry}
-use Rattle.records.specs.declared.Gsv.{Gsv}
+use Rattle.kind_gsv.specs.declared.Entry.{Entry}
+use Rattle.kind_gsv.specs.declared.Gsv.{Gsv}
 use Rattle.sky.specs.Group.{entriesAt, follows, inPlace, linesFor, sameTalker}
 use Rattle.sky.proofs.Numbers.{entries-at, starts}
 use Rattle.sky_read.specs.Steps.{seenIf, seenOf, Sound}

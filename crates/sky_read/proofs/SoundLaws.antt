@@ -14,14 +14,14 @@ use Rattle.form.specs.Wrong.{After, after}
 use Rattle.form.proofs.Lists.{all-four}
 use Rattle.form.proofs.Values.{inside}
 use Rattle.form.proofs.Zeros.{all-zero, Zero}
-use Rattle.records.specs.Blank.{blankEntry, isBlank}
-use Rattle.records.specs.declared.Entry.{Entry}
-use Rattle.records.specs.declared.Gsv.{Gsv}
-use Rattle.records.specs.declared.Sentence.the-variants as S
+use Rattle.kind_gsv.specs.Blank.{blankEntry, isBlank}
+use Rattle.kind_gsv.specs.declared.Entry.{Entry}
+use Rattle.kind_gsv.specs.declared.Gsv.{Gsv}
 use Rattle.kind_gsv.specs.Writing.{entryAfters, entryOf, gsvWrong, restBlank, used}
 use Rattle.kind_gsv.proofs.EntryLaws.{blank-is}
 use Rattle.kind_gsv.proofs.GoodLaws.{Good}
-use Rattle.reading.specs.Lines.{readLine}
+use Rattle.sentence.specs.Lines.{readLine}
+use Rattle.sentence.specs.Sentence as S
 use Rattle.sentence_laws.proofs.GsvSame.{gsv-good}
 use Rattle.sky.specs.Group.{usedOf}
 use Rattle.sky_read.specs.Steps.{Sound}
@@ -100,5 +100,5 @@ module _ (v : Gsv) (four : length (v .entries) ≡ 4) (good : Good v) where
     rest = rest;
   }
 
-pub sound : (l : List ℕ) (t : Talker) → readLine l .sentence ≡ S.Gsv t → Sound (readLine l .gsv)
-sound l t e = let g = gsv-good l t e in sound-of (readLine l .gsv) (g .0) (g .1)
+pub sound : (l : List ℕ) (t : Talker) (v : Gsv) → readLine l ≡ S.Gsv t v → Sound v
+sound l t v e = let g = gsv-good l t v e in sound-of v (g .0) (g .1)

@@ -1,26 +1,30 @@
 -- What a line comes to, by cases as the code meets them.
 use Prim.Native.Nat.{ℕ}
 use mathlib.Core.Bool.{_&&_, Bool, false, true, true≢false}
-use mathlib.Core.List.{[], _∷_, List}
+use mathlib.Core.List.{[], List}
 use mathlib.Core.Option.{Option, some}
 use mathlib.Core.Path.{_∙_, _≡_, ap, refl, sym}
 use native.Mathlib.Omega.{arith}
 use lib.Dec.{eqb, leb}
+use lib.IntN.{ℤ}
 use lib.ListN.{length}
-use denote.Enum.Declared.{tagOf}
 use borrow.Author.Tests.{eqb-true}
-use types.Run.{miss, OneOf}
 use Rattle.digits.specs.Pick.{pick}
 use Rattle.lines.specs.Reader.{next, Step, stop}
 use Rattle.address.specs.declared.Talker.{Talker}
-use Rattle.records.specs.Blank.{blankGsv}
-use Rattle.records.specs.declared.Entry.{Entry}
-use Rattle.records.specs.declared.Gsv.{Gsv}
-use Rattle.records.specs.declared.Reading.{Reading}
-use Rattle.records.specs.declared.Sentence.{Sentence}
-use Rattle.records.specs.declared.Sentence.the-variants as S
-use Rattle.records.proofs.Sentence.{the-type}
-use Rattle.reading.specs.Lines.{readLine}
+use Rattle.numbers.specs.Layout.{whole}
+use Rattle.numbers.specs.Numbers.{talkerOf}
+use Rattle.numbers.specs.declared.Told.{Told}
+use Rattle.kind_gsv.specs.Blank.{blankGsv}
+use Rattle.kind_gsv.specs.Row.{gsvAt}
+use Rattle.kind_gsv.specs.declared.Entry.{Entry}
+use Rattle.kind_gsv.specs.declared.Gsv.{Gsv}
+use Rattle.sentence.specs.Lines.{readLine}
+use Rattle.sentence.specs.Numbers.{kindOf}
+use Rattle.sentence.specs.Sentence as S
+use Rattle.sentence.specs.Sentence.{Sentence}
+use Rattle.sentence.specs.ToHost.{laidFor, toldFor}
+use Rattle.tripsnumbers.proofs.Told.{gsv-told, told-kind, told-refused}
 use Rattle.sky.specs.Group.{entriesAt, entriesOf, follows, gsvRule, inPlace, linesFor, repeats, rule, ruled, sameTalker, Seen, seen}
 use Rattle.sky.specs.Group.{talkerNo, usedOf}
 use Rattle.sky_read.specs.Steps.{Before, Checks, faultOf, seenIf, seenOf, stepOf, Steps}
@@ -28,13 +32,6 @@ use Rattle.sky_read.specs.declared.Head.{Head}
 use Rattle.sky_read.specs.declared.Next.{Next}
 use Rattle.sky_read.specs.declared.Next.the-variants.{Stop, Taken}
 use Rattle.sky_read.specs.declared.Stepped.{Stepped}
-
--- The numbers of the variants of a sentence other than a refusal, and other than GSV.
-abbrev notRefused : List ℕ
-notRefused = 0 ∷ 1 ∷ 2 ∷ 3 ∷ 4 ∷ 5 ∷ 6 ∷ 7 ∷ 8 ∷ 9 ∷ 10 ∷ 11 ∷ 12 ∷ 13 ∷ 14 ∷ []
-
-abbrev notGsv : List ℕ
-notGsv = 0 ∷ 1 ∷ 2 ∷ 4 ∷ 5 ∷ 6 ∷ 7 ∷ 8 ∷ 9 ∷ 10 ∷ 11 ∷ 12 ∷ 13 ∷ 14 ∷ 15 ∷ []
 
 abbrev talkerIn : Next → Talker → Talker
 talkerIn (Taken t) u = t
@@ -76,39 +73,58 @@ pub follows-later : (h : Head) (k : ℕ) (t : Talker) (v : Gsv) → h .begun ≡
 unfolding follows sameTalker
 follows-later h k t v e = rw e
 
+-- What was told of a line, to who lends room for every record, says what it was read to.
+module _ (l : List ℕ) (out : List ℤ) (full : length out ≡ 33) (t : Told) (e : t ≡ toldFor (readLine l) out) where
+  not-refused : t .no ≡ 0 → toldFor (readLine l) out .no ≡ 0
+  not-refused h = ap (λ (x : Told). x .no) (sym e) ∙ h
+
+  pub line-refused : (t .no ≡ 0 → ⊥) → readLine l ≡ S.Refused (t .no) (t .field)
+  line-refused h =
+      told-refused l out full (λ q. h (ap (λ (x : Told). x .no) e ∙ q)) ∙ ap (λ (x : Told). S.Refused (x .no) (x .field)) (sym e)
+
+  pub line-other : t .no ≡ 0 → (t .kind ≡ 4 → ⊥) → (kindOf (readLine l) ≡ 0 → ⊥) × (kindOf (readLine l) ≡ 4 → ⊥)
+  line-other h o =
+      let z = told-kind l out full (not-refused h) in
+      (z .1, λ q. o (ap (λ (x : Told). x .kind) e ∙ z .0 ∙ q))
+
+  pub line-gsv : (left : List ℤ) → left ≡ laidFor (readLine l) out → t .no ≡ 0 → t .kind ≡ 4
+      → readLine l ≡ S.Gsv (talkerOf (whole .at left 0)) (gsvAt left)
+  line-gsv left p h k =
+      gsv-told l out full (not-refused h) (ap (λ (x : Told). x .kind) (sym e) ∙ k)
+      ∙ ap (λ (n : List ℤ). S.Gsv (talkerOf (whole .at n 0)) (gsvAt n)) (sym p)
+
 -- What the rule says of a line that was read, by the sentence.
 module _ (q : Option Seen) (k : ℕ) (l : List ℕ) where
-  pub rule-refused : (n f : ℕ) → readLine l .sentence ≡ S.Refused n f → rule q k l ≡ stop n f
+  pub rule-refused : (n f : ℕ) → readLine l ≡ S.Refused n f → rule q k l ≡ stop n f
   unfolding rule
   rule-refused n f e = rw e
 
-  pub rule-gsv : (t : Talker) → readLine l .sentence ≡ S.Gsv t → rule q k l ≡ gsvRule q k t (readLine l .gsv)
+  pub rule-gsv : (t : Talker) (v : Gsv) → readLine l ≡ S.Gsv t v → rule q k l ≡ gsvRule q k t v
   unfolding rule
-  rule-gsv t e = rw e
+  rule-gsv t v e = rw e
 
-  other-six : (s : Sentence) (v : Gsv) → OneOf notRefused (tagOf the-type s) → OneOf notGsv (tagOf the-type s) → ruled q k s v ≡ stop 6 0
-  other-six (S.Refused n f) v a b = absurd (miss notRefused 15 tt a)
-  other-six (S.Gsv t) v a b = absurd (miss notGsv 3 tt b)
-  other-six (S.Gga t r) v a b = refl
-  other-six (S.Gll t r) v a b = refl
-  other-six (S.Gsa t) v a b = refl
-  other-six (S.Rmc t r) v a b = refl
-  other-six (S.Vtg t r) v a b = refl
-  other-six (S.Zda t r) v a b = refl
-  other-six (S.Pr r) v a b = refl
-  other-six (S.Tr r) v a b = refl
-  other-six (S.Sr r) v a b = refl
-  other-six S.Er v a b = refl
-  other-six (S.Pa r) v a b = refl
-  other-six (S.Ta r) v a b = refl
-  other-six (S.Sa r) v a b = refl
-  other-six (S.Ea r) v a b = refl
+  other-six : (s : Sentence) → (kindOf s ≡ 0 → ⊥) → (kindOf s ≡ 4 → ⊥) → ruled q k s ≡ stop 6 0
+  other-six (S.Refused n f) a b = absurd (a refl)
+  other-six (S.Gsv t r) a b = absurd (b refl)
+  other-six (S.Gga t r) a b = refl
+  other-six (S.Gll t r) a b = refl
+  other-six (S.Gsa t r) a b = refl
+  other-six (S.Rmc t r) a b = refl
+  other-six (S.Vtg t r) a b = refl
+  other-six (S.Zda t r) a b = refl
+  other-six (S.Pr r) a b = refl
+  other-six (S.Tr r) a b = refl
+  other-six (S.Sr r) a b = refl
+  other-six S.Er a b = refl
+  other-six (S.Pa r) a b = refl
+  other-six (S.Ta r) a b = refl
+  other-six (S.Sa r) a b = refl
+  other-six (S.Ea r) a b = refl
 
   -- Any other kind.
-  pub rule-other : (r : Reading) → r ≡ readLine l → OneOf notRefused (tagOf the-type (r .sentence))
-      → OneOf notGsv (tagOf the-type (r .sentence)) → rule q k l ≡ stop 6 0
+  pub rule-other : (kindOf (readLine l) ≡ 0 → ⊥) → (kindOf (readLine l) ≡ 4 → ⊥) → rule q k l ≡ stop 6 0
   unfolding rule
-  rule-other r e a b = ap (λ (r : Reading). ruled q k (r .sentence) (r .gsv)) (sym e) ∙ other-six (r .sentence) (r .gsv) a b
+  rule-other = other-six (readLine l)
 
 -- A line that ends the group.
 abbrev isTaken : Next → Bool
@@ -124,17 +140,14 @@ module _ (h : Head) (k : ℕ) (l before left : List ℕ) (kept : length left ≡
     taken = λ es b t q. absurd (true≢false (sym (ap isTaken q) ∙ ap (λ (r : Stepped). isTaken (r .next)) e));
   }
 
-  module _ (t : Talker) (v : Gsv) (e : v ≡ readLine l .gsv) (s : readLine l .sentence ≡ S.Gsv t) where
-    gsv-rule : (es : List Entry) → rule (seenOf h es) k l ≡ gsvRule (seenOf h es) k t v
-    gsv-rule es = rule-gsv (seenOf h es) k l t s ∙ ap (gsvRule (seenOf h es) k t) (sym e)
-
+  module _ (t : Talker) (v : Gsv) (s : readLine l ≡ S.Gsv t v) where
     -- Whether it follows, and the answer of the marks, decide.
     module _ (f answer : Bool) (i : f ≡ follows (seenOf h []) k t v) (c : Checks v before answer left) where
       decided : (es : List Entry) → Before h es before
           → rule (seenOf h es) k l ≡ pick f (pick answer (stop 7 0) (next (some (seen (seenOf h es) t v)))) (stop 6 0)
       unfolding gsvRule
       decided es b =
-          gsv-rule es
+          rule-gsv (seenOf h es) k l t v s
           ∙ ap (λ (x : Bool). pick x (pick (repeats (entriesOf (seenOf h es)) (usedOf v)) (stop 7 0)
           (next (some (seen (seenOf h es) t v)))) (stop 6 0)) (sym (i ∙ follows-any h es k t v))
           ∙ ap (λ (l : List Entry). pick f (pick (repeats l (usedOf v)) (stop 7 0) (next (some (seen (seenOf h es) t v)))) (stop 6 0))
@@ -164,8 +177,7 @@ module _ (h : Head) (k : ℕ) (l before left : List ℕ) (kept : length left ≡
         kept = kept;
         ruled = λ es b. sym (decided es b ∙ fault-none f answer (next (some (seen (seenOf h es) t v))) a .1);
         taken = λ es b u q. record {
-          read = s ∙ ap S.Gsv (taken-same q);
-          record-of = e;
+          read = s ∙ ap (λ (u : Talker). S.Gsv u v) (taken-same q);
           fits = ap (λ (u : Talker). follows (seenOf h es) k u v) (sym (taken-same q)) ∙ sym (i ∙ follows-any h es k t v)
               ∙ fault-none f answer (stop 0 0) a .0;
           marks = c .marks es (b .1);

@@ -9,11 +9,11 @@ use lib.ListN.{getD, length, replicate}
 use Rattle.lines.specs.Reader.{next, Step, stop}
 use Rattle.address.specs.declared.Talker.{Talker}
 use Rattle.address.specs.declared.Talker.the-variants.{Gp}
-use Rattle.records.specs.Blank.{blankEntry}
-use Rattle.records.specs.declared.Entry.{Entry}
-use Rattle.records.specs.declared.Gsv.{Gsv}
-use Rattle.records.specs.declared.Sentence.the-variants as S
-use Rattle.reading.specs.Lines.{readLine}
+use Rattle.kind_gsv.specs.Blank.{blankEntry}
+use Rattle.kind_gsv.specs.declared.Entry.{Entry}
+use Rattle.kind_gsv.specs.declared.Gsv.{Gsv}
+use Rattle.sentence.specs.Lines.{readLine}
+use Rattle.sentence.specs.Sentence as S
 use Rattle.sky.specs.Group.{entriesOf, follows, repeats, rule, Seen, seen, usedOf}
 use Rattle.sky.specs.Marks.{Marks}
 use Rattle.sky.specs.Sky.{refusedSky}
@@ -63,8 +63,7 @@ stepOf (Taken t) q v = next (some (seen q t v))
 stepOf (Stop n f) q v = stop n f
 
 pub record IsTaken (h : Head) (k : ℕ) (l : List ℕ) (t : Talker) (v : Gsv) (es : List Entry) (left : List ℕ) : Type 0 where
-  pub read : readLine l .sentence ≡ S.Gsv t
-  pub record-of : v ≡ readLine l .gsv
+  pub read : readLine l ≡ S.Gsv t v
   pub fits : follows (seenOf h es) k t v ≡ true
   pub marks : Marks (es ++ usedOf v) left
 

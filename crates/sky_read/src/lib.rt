@@ -2,9 +2,8 @@
 mod repeats;
 
 use address::Talker;
-use records::Entry;
-use records::Gsv;
-use records::Sentence;
+use kind_gsv::Entry;
+use kind_gsv::Gsv;
 use sky::Sky;
 use sky::Table;
 use sky::Whose;
@@ -12,7 +11,7 @@ ghost use mathlib.Core.Bool.{true};
 ghost use mathlib.Core.List.{[]};
 ghost use mathlib.Core.Path.{_≡_};
 ghost use lib.ListN.{length};
-ghost use Rattle.records.specs.Blank.{blankGsv};
+ghost use Rattle.kind_gsv.specs.Blank.{blankGsv};
 ghost use Rattle.sky.specs.Group.{follows, groupOf, inPlace, talkerNo};
 ghost use Rattle.sky.specs.Sky.{refusedSky, skyOf};
 ghost use Rattle.sky_read.specs.Steps.{faultOf, notBegun, seenOf, skyEnd, Sound, Steps};
@@ -40,7 +39,7 @@ pub struct Stepped {
 fn refuse(no: u8, line: usize, field: usize) -> Sky
     ensures { λ r. ⌜ r ≡ refusedSky no line field ⌝ }
 {
-    let none = records::blank::entry();
+    let none = kind_gsv::blank::entry();
     let entries = [none; 36];
     Sky {
         no,
@@ -107,7 +106,7 @@ fn stop(no: u8, field: usize) -> Stepped
 {
     Stepped {
         next: Next::Stop(no, field),
-        gsv: records::blank::gsv(),
+        gsv: kind_gsv::blank::gsv(),
     }
 }
 
@@ -116,15 +115,16 @@ fn step(seen: &mut [u8], head: Head, k: usize, line: &[u8]) -> Stepped
     requires { ⌜ length (now seen) ≡ 100 ⌝ }
     ensures { λ r. ⌜ Steps head k (now (line .entry)) (now (seen .entry)) r (now (seen .exit)) ⌝ }
 {
-    let reading = reading::read_line(line);
-    let sentence = reading.sentence;
-    let gsv = reading.gsv;
-    if let Sentence::Refused(no, field) = sentence {
-        return stop(no, field);
+    let mut n = [0i64; 33];
+    let told = sentence::read(line, &mut n);
+    if told.no != 0 {
+        return stop(told.no, told.field);
     }
-    let Sentence::Gsv(t) = sentence else {
+    if told.kind != 4 {
         return stop(6, 0);
-    };
+    }
+    let t = numbers::talker_of(numbers::whole_at(&n, 0));
+    let gsv = kind_gsv::at(&n);
     let follows = follows(head, k, t, gsv);
     let repeats = repeats::in_line(seen, gsv);
     let no = fault_of(follows, repeats);
@@ -194,7 +194,7 @@ pub fn read(s: &[u8]) -> Sky
     if s.len() == 0 {
         return refuse(1, 1, 0);
     }
-    let none = records::blank::entry();
+    let none = kind_gsv::blank::entry();
     let mut entries = [none; 36];
     let mut seen = [0u8; 100];
     let mut head = no_head();

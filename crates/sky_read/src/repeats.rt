@@ -1,5 +1,5 @@
 // Whether a line repeats a satellite of its group.
-use records::Gsv;
+use kind_gsv::Gsv;
 ghost use mathlib.Core.Path.{_≡_};
 ghost use lib.ListN.{length};
 ghost use Rattle.sky_read.specs.Steps.{Checks, Sound};

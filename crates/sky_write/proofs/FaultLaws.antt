@@ -16,8 +16,8 @@ use Rattle.form.specs.Values.{outside, rangeWrong}
 use Rattle.form.specs.Wrong.{firstWrong, nearOf}
 use Rattle.form.proofs.Values.{inside}
 use Rattle.form.proofs.Zeros.{all-zero}
-use Rattle.records.specs.Blank.{isBlank}
-use Rattle.records.specs.declared.Entry.{Entry}
+use Rattle.kind_gsv.specs.Blank.{isBlank}
+use Rattle.kind_gsv.specs.declared.Entry.{Entry}
 use Rattle.kind_gsv.specs.Writing.{entryAfters}
 use Rattle.sky.specs.Marks.{hadIf, markedIf, Marks}
 use Rattle.sky.specs.Table.{allBlank, entryFault, entryWrong, faultFrom, orElse, tableFault}

@@ -16,8 +16,8 @@ use Rattle.frame.specs.declared.Written.{Written}
 use Rattle.form.specs.Wrong.{After, firstWrong}
 use Rattle.form.proofs.Ranged.{in-outside}
 use Rattle.form.proofs.Zeros.{all-zero, zero-all}
-use Rattle.records.specs.Blank.{blankEntry, isBlank}
-use Rattle.records.specs.declared.Entry.{Entry}
+use Rattle.kind_gsv.specs.Blank.{blankEntry, isBlank}
+use Rattle.kind_gsv.specs.declared.Entry.{Entry}
 use Rattle.kind_gsv.specs.Writing.{entryAfters, entryOf, gsvFault, gsvWrong, restBlank, used}
 use Rattle.sky.specs.Group.{entriesAt, linesFor, numbered, repeats}
 use Rattle.sky.specs.Table.{allBlank, entryFault, entryWrong, faultFrom, lineAt, orElse, tableFault}

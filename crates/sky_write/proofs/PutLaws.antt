@@ -15,7 +15,7 @@ use Rattle.address.specs.declared.Talker.{Talker}
 use Rattle.frame.specs.Written.{leftOf, refused, Writes, writtenOf, wrote}
 use Rattle.frame.specs.declared.Written.{Written}
 use Rattle.frame.proofs.Sealing.{line-length}
-use Rattle.records.specs.declared.Gsv.{Gsv}
+use Rattle.kind_gsv.specs.declared.Gsv.{Gsv}
 use Rattle.kind_gsv.specs.Writing.{gsvBody, gsvFault}
 use Rattle.sentence_laws.proofs.Gsv.{fits}
 use Rattle.sky.specs.Group.{linesFor}

@@ -20,9 +20,9 @@ use Rattle.form.specs.Kind.{fieldsFor}
 use Rattle.form.specs.Values.{ifThere}
 use Rattle.form.proofs.CleanTexts.{joined-length, total, total-append}
 use Rattle.form.proofs.Lists.{all-four}
-use Rattle.records.specs.Blank.{blankEntry}
-use Rattle.records.specs.declared.Entry.{Entry}
-use Rattle.records.specs.declared.Gsv.{Gsv}
+use Rattle.kind_gsv.specs.Blank.{blankEntry}
+use Rattle.kind_gsv.specs.declared.Entry.{Entry}
+use Rattle.kind_gsv.specs.declared.Gsv.{Gsv}
 use Rattle.kind_gsv.specs.Row.{gsvRow}
 use Rattle.kind_gsv.specs.Writing.{entryFields, entryOf, gsvBody, gsvFields, used}
 use Rattle.sentence_laws.proofs.Known.{address-five}

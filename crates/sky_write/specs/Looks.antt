@@ -4,7 +4,7 @@ use mathlib.Core.List.{[], _++_, _∷_, List}
 use mathlib.Core.Path.{_≡_}
 use lib.ListN.{length}
 use Rattle.frame.specs.declared.Written.{Written}
-use Rattle.records.specs.declared.Entry.{Entry}
+use Rattle.kind_gsv.specs.declared.Entry.{Entry}
 use Rattle.sky.specs.Marks.{Marks}
 use Rattle.sky.specs.Table.{entryFault}
 

@@ -3,7 +3,7 @@ use Prim.Native.Nat.{_*_, _+_, ℕ}
 use mathlib.Core.Bool.{cond}
 use mathlib.Core.List.{[], _∷_, List}
 use lib.ListN.{take}
-use Rattle.records.specs.declared.Entry.{Entry}
+use Rattle.kind_gsv.specs.declared.Entry.{Entry}
 use Rattle.sky.specs.Group.{linesFor}
 use Rattle.sky.specs.declared.Table.{Table}
 

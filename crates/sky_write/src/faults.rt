@@ -1,6 +1,6 @@
 // Why a table is refused.
 use frame::Written;
-use records::Entry;
+use kind_gsv::Entry;
 use sky::Table;
 ghost use Prim.Native.Nat.{_<_, _≤_};
 ghost use mathlib.Core.List.{[]};

@@ -4,7 +4,7 @@ mod sizes;
 
 use address::Talker;
 use frame::Written;
-use records::Gsv;
+use kind_gsv::Gsv;
 use sky::Table;
 ghost use Prim.Native.Nat.{_≤_};
 ghost use mathlib.Core.Path.{_≡_};

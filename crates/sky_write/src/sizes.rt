@@ -1,5 +1,5 @@
 // How many bytes the lines of a table are.
-use records::Entry;
+use kind_gsv::Entry;
 use sky::Table;
 ghost use Prim.Native.Nat.{_≤_};
 ghost use mathlib.Core.Bool.{cond};

@@ -7,15 +7,16 @@ use native.Mathlib.Omega.{arith}
 use lib.IntN.{ℤ}
 use lib.ListN.{length, drop}
 use Rattle.address.specs.declared.Talker.{Talker}
-use Rattle.records.specs.Blank.{blankEntry}
+use Rattle.kind_gsv.specs.Blank.{blankEntry}
 use Rattle.sky.specs.declared.Table.{Table}
-use Rattle.slots.specs.Slots.{laid}
-use Rattle.slots.specs.Layout.{whole, _then_, several, entryLayout, talkerLayout}
-use Rattle.slots.proofs.Arrays.{lawful-several}
-use Rattle.slots.proofs.Laying.{laid-is}
-use Rattle.slots.proofs.Layouts.{LawfulLayout, lawful-whole, lawful-shaped, _⊗_}
-use Rattle.slots.proofs.Values.{lawful-entry, lawful-talker, numbers-back, talker-held}
-use Rattle.tonumbers.specs.Layout.{standard}
+use Rattle.numbers.specs.Numbers.{laid}
+use Rattle.numbers.specs.Layout.{_then_, several, standard, standardNumbers, talkerLayout, whole}
+use Rattle.kind_gsv.specs.Row.{entryLayout}
+use Rattle.numbers.proofs.Arrays.{lawful-several}
+use Rattle.numbers.proofs.Laying.{laid-is}
+use Rattle.numbers.proofs.Layouts.{LawfulLayout, lawful-whole, lawful-shaped, _⊗_}
+use Rattle.kind_gsv.proofs.Numbers.{lawful-entry}
+use Rattle.numbers.proofs.Values.{lawful-talker, numbers-back, talker-held}
 use Rattle.skynumbers.specs.Numbers.{tableLayout, skyNumbers, tableAt}
 use Rattle.skynumbers.proofs.Laying.{sky-long}
 
@@ -27,6 +28,7 @@ lawful-table =
 
 module _ (t : Talker) (r : Table) (full : length (r .entries) ≡ 36) (held : tableLayout .held r ≡ true) where
   pub back : (rest : List ℤ) → standard tableLayout .at (skyNumbers t r ++ rest) 0 ≡ (t, r)
+  unfolding standardNumbers
   back rest = numbers-back (lawful-talker ⊗ lawful-table) [] (t, r) rest (rw (talker-held t, held))
 
   pub laid-back : (out : List ℤ) → 254 ≤ length out

@@ -5,14 +5,15 @@ use native.Mathlib.Omega.{arith}
 use lib.IntN.{ℤ, pos}
 use lib.ListN.{length}
 use Rattle.address.specs.declared.Talker.{Talker}
-use Rattle.records.specs.declared.Entry.{Entry}
-use Rattle.records.specs.Blank.{blankEntry}
+use Rattle.kind_gsv.specs.declared.Entry.{Entry}
+use Rattle.kind_gsv.specs.Blank.{blankEntry}
 use Rattle.sky.specs.declared.Table.{Table}
-use Rattle.slots.specs.Slots.{talkerNumber}
-use Rattle.slots.specs.Layout.{listNumbers, entryLayout}
-use Rattle.slots.proofs.Arrays.{from-all}
-use Rattle.slots.proofs.Laying.{many}
-use Rattle.slots.proofs.Values.{lawful-entry}
+use Rattle.numbers.specs.Numbers.{talkerNumber}
+use Rattle.numbers.specs.Layout.{listNumbers, standardNumbers}
+use Rattle.kind_gsv.specs.Row.{entryLayout}
+use Rattle.numbers.proofs.Arrays.{from-all}
+use Rattle.numbers.proofs.Laying.{many}
+use Rattle.kind_gsv.proofs.Numbers.{lawful-entry}
 use Rattle.skynumbers.specs.Numbers.{tableLayout, skyNumbers}
 
 abbrev pub skyFirst : Talker → Table → List ℤ
@@ -23,7 +24,7 @@ places r = listNumbers entryLayout (r .entries) []
 
 module _ (t : Talker) (r : Table) (full : length (r .entries) ≡ 36) where
   pub sky-parts : skyFirst t r ++ places r ≡ skyNumbers t r
-  unfolding tableLayout
+  unfolding tableLayout standardNumbers
   sky-parts = ap (λ (vs : List Entry). skyFirst t r ++ listNumbers entryLayout vs []) (sym (from-all blankEntry (r .entries) 36 full))
 
   pub places-long : length (places r) ≡ 252

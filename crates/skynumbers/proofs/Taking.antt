@@ -7,8 +7,9 @@ use native.Mathlib.Numerals.{add-one}
 use lib.IntN.{ℤ}
 use lib.ListN.{length, set, take, length-set}
 use lib.Seq.{take-all, take-suc-set}
-use Rattle.records.specs.declared.Entry.{Entry}
-use Rattle.slots.specs.Layout.{listAt, entryLayout}
+use Rattle.kind_gsv.specs.declared.Entry.{Entry}
+use Rattle.numbers.specs.Layout.{listAt}
+use Rattle.kind_gsv.specs.Row.{entryLayout}
 
 at-snoc : (n : List ℤ) (a k : ℕ) → listAt entryLayout n a (suc k) ≡ listAt entryLayout n a k ++ (entryLayout .at n (a + 7 * k) ∷ [])
 at-snoc n a zero = let e : a ≡ a + 7 * 0 = omega arith in ap (λ (i : ℕ). entryLayout .at n i ∷ []) e

@@ -2,10 +2,10 @@
 use mathlib.Core.List.{List}
 use lib.IntN.{ℤ}
 use Rattle.address.specs.declared.Talker.{Talker}
-use Rattle.records.specs.Blank.{blankEntry}
+use Rattle.kind_gsv.specs.Blank.{blankEntry}
 use Rattle.sky.specs.declared.Table.{Table}
-use Rattle.slots.specs.Layout.{Layout, whole, _then_, shaped, several, entryLayout}
-use Rattle.tonumbers.specs.Layout.{standard, standardNumbers}
+use Rattle.numbers.specs.Layout.{_then_, Layout, several, shaped, standard, standardNumbers, whole}
+use Rattle.kind_gsv.specs.Row.{entryLayout}
 
 unfoldable pub tableLayout : Layout Table
 tableLayout =

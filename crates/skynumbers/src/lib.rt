@@ -1,15 +1,16 @@
 // A table of satellites and its talker as 254 numbers in a lent slice.
 use address::Talker;
-use records::Entry;
-use records::blank;
+use kind_gsv::Entry;
+use kind_gsv::blank;
 use sky::Table;
 ghost use mathlib.Core.Path.{_≡_};
 ghost use mathlib.Core.List.{[]};
 ghost use Prim.Native.Nat.{_≤_};
 ghost use lib.Dec.{leb};
 ghost use lib.ListN.{length};
-ghost use Rattle.slots.specs.Slots.{laid};
-ghost use Rattle.slots.specs.Layout.{listNumbers, entryLayout};
+ghost use Rattle.numbers.specs.Numbers.{laid};
+ghost use Rattle.numbers.specs.Layout.{listNumbers};
+ghost use Rattle.kind_gsv.specs.Row.{entryLayout};
 ghost use Rattle.skynumbers.specs.Numbers.{skyNumbers, tableAt};
 
 // Stores the numbers of 36 entries at the start of `out`, where there is room for them.
@@ -21,7 +22,7 @@ fn lay_entries(out: &mut [i64], s: [Entry; 36]) -> bool
     }
     let mut i: usize = 0;
     while i < 36 {
-        tonumbers::sat::lay_entry(&mut out[7 * i..], s[i]);
+        kind_gsv::lay_entry(&mut out[7 * i..], s[i]);
         i += 1;
     }
     true
@@ -37,10 +38,10 @@ pub fn lay(out: &mut [i64], t: Talker, r: Table) -> bool
     if out.len() < 254 {
         return false;
     }
-    let talker = slots::talker_number(t);
+    let talker = numbers::talker_number(t);
     let first = [talker as i64, r.count as i64];
     let entries = r.entries;
-    slots::lay(out, &first);
+    numbers::lay(out, &first);
     lay_entries(&mut out[2..], entries);
     true
 }
@@ -53,11 +54,11 @@ pub fn table_at(numbers: &[i64]) -> Table
     let mut entries = [none; 36];
     let mut i: usize = 0;
     while i < 36 {
-        entries[i] = fromnumbers::values::entry(numbers, (2 + 7 * i) as u16);
+        entries[i] = kind_gsv::entry_at(numbers, (2 + 7 * i) as u16);
         i += 1;
     }
     Table {
-        count: slots::whole_at(numbers, 1) as usize,
+        count: numbers::whole_at(numbers, 1) as usize,
         entries,
     }
 }

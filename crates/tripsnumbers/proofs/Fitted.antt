@@ -14,8 +14,8 @@ use Rattle.form_position.specs.Angle.{latitudeMost, longitudeMost}
 use Rattle.form_date.specs.Calendar.{daysIn, isDate, leapYear}
 use Rattle.form_mask.specs.Masks.{isPortMask, portWrong}
 use Rattle.form.specs.Values.{isMissing, outside, rangeWrong, signedWrong}
-use Rattle.records.specs.Blank.{isBlank}
-use Rattle.records.specs.declared.Entry.{Entry}
+use Rattle.kind_gsv.specs.Blank.{isBlank}
+use Rattle.kind_gsv.specs.declared.Entry.{Entry}
 use Rattle.form_date.specs.declared.Date.{Date}
 use Rattle.form.specs.declared.Maybe.{Maybe}
 use Rattle.form_position.specs.declared.Place.{Place}
@@ -25,43 +25,47 @@ use Rattle.form_date.specs.Values.{sixWrong, threeWrong}
 use Rattle.form.proofs.Clean.{Clean}
 use Rattle.form.proofs.Signed.{first-zero, signed-in, signed-none}
 use Rattle.form_letter.proofs.Back.{in-clean, letter-in}
-use Rattle.form.specs.Row.{_▷_, depending, Form, made, measured, one, Row}
+use Rattle.form.specs.Row.{_▷_, depending, Form, made, measured, one, Row, unitAfter}
 use Rattle.form.proofs.Laws.{near-zero}
-use Rattle.slots.specs.Slots.{most}
-use Rattle.slots.specs.Layout.{_then_, dateLayout, Layout, placeLayout, shaped, signed, whole}
-use Rattle.slots.proofs.Layouts.{and-true}
+use Rattle.numbers.specs.Numbers.{most}
+use Rattle.numbers.specs.Layout.{Layout, nothing, signed}
+use Rattle.form_date.specs.Numbers.{dateLayout}
+use Rattle.form_position.specs.Numbers.{placeLayout}
+use Rattle.numbers.proofs.Layouts.{and-true}
 
 pub both : {a b : Bool} → a ≡ true → b ≡ true → (a && b) ≡ true
 both p q = rw (p, q)
 
 -- A row without a fault has values that 32 bits hold.
-pub record Fitted {G X : Type 0} (r : Row G X) (a : Layout X) : Type 0 where
-  pub fits : (v : X) (n rest : ℕ) → r .fault v n rest ≡ 0 → (a .held v ≡ true) × (rest ≡ 0)
+pub record Fitted {G X : Type 0} (r : Row G X) : Type 0 where
+  pub fits : (v : X) (n rest : ℕ) → r .fault v n rest ≡ 0 → (r .layout .held v ≡ true) × (rest ≡ 0)
 
-pub fitted-one : {G X : Type 0} (f : Form G X) (a : Layout X) → ((v : X) → f .fault v ≡ 0 → a .held v ≡ true) → Fitted (one f) a
-fitted-one f a h = record { fits = λ v n rest e. let z = near-zero n (f .fault v) rest e in (h v (z .0), z .1) }
+pub fitted-one : {G X : Type 0} (f : Form G X) → ((v : X) → f .fault v ≡ 0 → f .layout .held v ≡ true) → Fitted (one f)
+fitted-one f h = record { fits = λ v n rest e. let z = near-zero n (f .fault v) rest e in (h v (z .0), z .1) }
 
-pub fitted-depending : {K G X H Y : Type 0} (w m : ℕ) (found : G → K) (held : X → K) (a : Row G X) (b : K → Row H Y)
-    {x : Layout X} {y : Layout Y} → Fitted a x → ((k : K) → Fitted (b k) y) → Fitted (depending w m found held a b) (x then y)
-fitted-depending w m found held a b p q =
+pub fitted-depending : {K G X H Y : Type 0} (w m : ℕ) (y : Layout Y) (found : G → K) (held : X → K) (a : Row G X) (b : K → Row H Y)
+    → ((k : K) (v : Y) → b k .layout .held v ≡ y .held v) → Fitted a → ((k : K) → Fitted (b k)) → Fitted (depending w m y found held a b)
+fitted-depending w m y found held a b same p q =
     record {
       fits = λ v n rest e.
           let i = p .fits (v .0) n (b (held (v .0)) .fault (v .1) (n + a .width) rest) e in
           let j = q (held (v .0)) .fits (v .1) (n + a .width) rest (i .1) in
-          (both (i .0) (j .0), j .1);
+          (both (i .0) (sym (same (held (v .0)) (v .1)) ∙ j .0), j .1);
     }
 
 infixr 30 _⊕_
-pub _⊕_ : {G X H Y : Type 0} {a : Row G X} {b : Row H Y} {x : Layout X} {y : Layout Y} → Fitted a x → Fitted b y → Fitted (a ▷ b) (x then y)
-_⊕_ {a = a} {b = b} p q = fitted-depending {K = Unit {0}} (b .width) (b .most) (λ g. tt) (λ v. tt) a (λ k. b) p (λ k. q)
+pub _⊕_ : {G X H Y : Type 0} {a : Row G X} {b : Row H Y} → Fitted a → Fitted b → Fitted (a ▷ b)
+_⊕_ {a = a} {b = b} p q =
+    fitted-depending {K = Unit {0}} (b .width) (b .most) (b .layout) (λ g. tt) (λ v. tt) a (λ k. b) (λ k v. refl) p (λ k. q)
 
-pub fitted-made : {G X R : Type 0} (to : X → R) (of : R → X) (a : Row G X) (x : Layout X) → Fitted a x
-    → Fitted (made to of a) (shaped to of x)
-fitted-made to of a x p = record { fits = λ r. p .fits (of r) }
+pub fitted-made : {G X R : Type 0} (to : X → R) (of : R → X) (a : Row G X) → Fitted a → Fitted (made to of a)
+fitted-made to of a p = record { fits = λ r. p .fits (of r) }
 
-pub fitted-measured : {G X : Type 0} (letter : ℕ) (found : G → Bool) (held : X → Bool) (a : Row G X) {x : Layout X} → Fitted a x
-    → Fitted (measured letter found held a) x
-fitted-measured letter found held a p = record { fits = p .fits }
+pub fitted-measured : {G X : Type 0} (letter : ℕ) (found : G → Bool) (held : X → Bool) (a : Row G X) → Fitted a
+    → Fitted (measured letter found held a)
+fitted-measured letter found held a p =
+    fitted-made (λ v. v .0) (λ v. (v, tt)) _
+    (fitted-depending 1 2 nothing found held a (unitAfter letter) (λ k v. refl) p (λ k. record { fits = λ v n rest e. (refl, e) }))
 
 -- The forms.
 outside-most : (lo hi v : ℕ) → outside lo hi v ≡ 0 → v ≤ hi

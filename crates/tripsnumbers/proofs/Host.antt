@@ -7,19 +7,17 @@ use mathlib.Core.List.{[], _++_, List}
 use lib.Dec.{eqb, leb}
 use lib.IntN.{ℤ}
 use lib.ListN.{drop, length}
-use Rattle.records.specs.declared.Gsa.{Gsa}
-use Rattle.records.specs.declared.Gsv.{Gsv}
-use Rattle.records.specs.declared.Reading.{Reading}
-use Rattle.records.specs.declared.Sentence.{Sentence}
-use Rattle.records.specs.declared.Sentence.the-variants as S
-use Rattle.reading.specs.Lines.{readLine, refusalOf}
+use Rattle.sentence.specs.Sentence.{Sentence}
+use Rattle.sentence.specs.Sentence as S
+use Rattle.sentence.specs.Lines.{readLine, refusalOf}
 use Rattle.digits.specs.Pick.{pick}
-use Rattle.slots.specs.Slots.{laid}
-use Rattle.tonumbers.specs.Layout.{kindOf, numbersOf, sentenceNumbers}
-use Rattle.tonumbers.proofs.Laying.{laid-none}
-use Rattle.fromnumbers.specs.Back.{recordAt}
-use Rattle.hostrecords.specs.declared.Told.{Told}
-use Rattle.hostrecords.specs.ToHost.{laidFor, told, toldFor, toldOf}
+use Rattle.numbers.specs.Numbers.{laid}
+use Rattle.sentence.specs.Numbers.{kindOf, numbersOf}
+use Rattle.numbers.proofs.Rows.{laid-none}
+use Rattle.sentence.specs.Back.{recordAt}
+use Rattle.numbers.specs.declared.Told.{Told}
+use Rattle.sentence.specs.ToHost.{laidFor, toldFor, toldOf}
+use Rattle.numbers.specs.Told.{told}
 use Rattle.tripsnumbers.proofs.Lines.{Crosses, read-crosses}
 
 -- Without room nothing is laid.
@@ -28,14 +26,14 @@ unfolding laid
 no-room numbers values e = ap (λ b. pick b (values ++ drop (length values) numbers) numbers) e
 
 -- What is told of a reading, by whether it is one and whether there is room.
-abbrev tellBy : Reading → Bool → Bool → Told
+abbrev tellBy : Sentence → Bool → Bool → Told
 tellBy r a b =
-    pick a (pick b (told 0 (kindOf (r .sentence)) 0) (told 8 0 0)) (told (refusalOf (r .sentence) .no) 0 (refusalOf (r .sentence) .field))
+    pick a (pick b (told 0 (kindOf r) 0) (told 8 0 0)) (told (refusalOf r .no) 0 (refusalOf r .field))
 
-laid-back : (r : Reading) → Crosses r → (numbers : List ℤ) → (toldFor r numbers .kind ≡ 0 → ⊥)
+laid-back : (r : Sentence) → Crosses r → (numbers : List ℤ) → (toldFor r numbers .kind ≡ 0 → ⊥)
     → recordAt (toldFor r numbers .kind) (laidFor r numbers) ≡ r
 unfolding toldOf laid
-laid-back r crosses numbers = go (eqb (refusalOf (r .sentence) .no) 0) (leb (length (numbersOf r)) (length numbers))
+laid-back r crosses numbers = go (eqb (refusalOf r .no) 0) (leb (length (numbersOf r)) (length numbers))
   where
     go : (a b : Bool)
         → (tellBy r a b .kind ≡ 0 → ⊥)
@@ -50,31 +48,31 @@ pub host-back : (l : List ℕ) (numbers : List ℤ) → (toldFor (readLine l) nu
 host-back l numbers h = laid-back (readLine l) (read-crosses l) numbers h
 
 -- A refused line has no numbers.
-no-numbers : (s : Sentence) (gsa : Gsa) (gsv : Gsv) → eqb (refusalOf s .no) 0 ≡ false → sentenceNumbers s gsa gsv ≡ []
-no-numbers (S.Gga t r) gsa gsv e = absurd (true≢false e)
-no-numbers (S.Gll t r) gsa gsv e = absurd (true≢false e)
-no-numbers (S.Gsa t) gsa gsv e = absurd (true≢false e)
-no-numbers (S.Gsv t) gsa gsv e = absurd (true≢false e)
-no-numbers (S.Rmc t r) gsa gsv e = absurd (true≢false e)
-no-numbers (S.Vtg t r) gsa gsv e = absurd (true≢false e)
-no-numbers (S.Zda t r) gsa gsv e = absurd (true≢false e)
-no-numbers (S.Pr r) gsa gsv e = absurd (true≢false e)
-no-numbers (S.Tr r) gsa gsv e = absurd (true≢false e)
-no-numbers (S.Sr r) gsa gsv e = absurd (true≢false e)
-no-numbers S.Er gsa gsv e = absurd (true≢false e)
-no-numbers (S.Pa r) gsa gsv e = absurd (true≢false e)
-no-numbers (S.Ta r) gsa gsv e = absurd (true≢false e)
-no-numbers (S.Sa r) gsa gsv e = absurd (true≢false e)
-no-numbers (S.Ea r) gsa gsv e = absurd (true≢false e)
-no-numbers (S.Refused n f) gsa gsv e = refl
+no-numbers : (s : Sentence) → eqb (refusalOf s .no) 0 ≡ false → numbersOf s ≡ []
+no-numbers (S.Gga t r) e = absurd (true≢false e)
+no-numbers (S.Gll t r) e = absurd (true≢false e)
+no-numbers (S.Gsa t r) e = absurd (true≢false e)
+no-numbers (S.Gsv t r) e = absurd (true≢false e)
+no-numbers (S.Rmc t r) e = absurd (true≢false e)
+no-numbers (S.Vtg t r) e = absurd (true≢false e)
+no-numbers (S.Zda t r) e = absurd (true≢false e)
+no-numbers (S.Pr r) e = absurd (true≢false e)
+no-numbers (S.Tr r) e = absurd (true≢false e)
+no-numbers (S.Sr r) e = absurd (true≢false e)
+no-numbers S.Er e = absurd (true≢false e)
+no-numbers (S.Pa r) e = absurd (true≢false e)
+no-numbers (S.Ta r) e = absurd (true≢false e)
+no-numbers (S.Sa r) e = absurd (true≢false e)
+no-numbers (S.Ea r) e = absurd (true≢false e)
+no-numbers (S.Refused n f) e = refl
 
 -- Where a host is told a refusal, its numbers are as they were.
-pub refusal-leaves : (r : Reading) (numbers : List ℤ) → (toldFor r numbers .no ≡ 0 → ⊥) → laidFor r numbers ≡ numbers
+pub refusal-leaves : (r : Sentence) (numbers : List ℤ) → (toldFor r numbers .no ≡ 0 → ⊥) → laidFor r numbers ≡ numbers
 unfolding toldOf
-refusal-leaves r numbers = go (eqb (refusalOf (r .sentence) .no) 0) (leb (length (numbersOf r)) (length numbers)) refl refl
+refusal-leaves r numbers = go (eqb (refusalOf r .no) 0) (leb (length (numbersOf r)) (length numbers)) refl refl
   where
-    go : (a b : Bool) → eqb (refusalOf (r .sentence) .no) 0 ≡ a → leb (length (numbersOf r)) (length numbers) ≡ b
+    go : (a b : Bool) → eqb (refusalOf r .no) 0 ≡ a → leb (length (numbersOf r)) (length numbers) ≡ b
         → (tellBy r a b .no ≡ 0 → ⊥) → laidFor r numbers ≡ numbers
     go true true p q h = absurd (h refl)
     go true false p q h = no-room numbers (numbersOf r) q
-    go false b p q h = ap (λ l. laid l numbers) (no-numbers (r .sentence) (r .gsa) (r .gsv) p) ∙ sym (laid-none numbers .1)
+    go false b p q h = ap (λ l. laid l numbers) (no-numbers r p) ∙ sym (laid-none numbers .1)

@@ -4,3 +4,4 @@ pub mod Whole
 pub mod Ranged
 pub mod Lines
 pub mod Host
+pub mod Told

@@ -18,14 +18,12 @@ use Rattle.address.specs.Address.{addressOf}
 use Rattle.fields.specs.Fields.{fieldsOf}
 use Rattle.fields.specs.Places.{theFields}
 use Rattle.digits.specs.Pick.{pick}
-use Rattle.records.specs.declared.Reading.{Reading}
-use Rattle.records.specs.declared.Sentence.{Sentence}
-use Rattle.records.specs.declared.Sentence.the-variants as S
-use Rattle.records.specs.Blank.{aloneOf, blankGsa, blankGsv}
-use Rattle.reading.specs.Lines.{addressed, makerOf, readBody, readLine, standardOf}
+use Rattle.sentence.specs.Sentence.{Sentence}
+use Rattle.sentence.specs.Sentence as S
+use Rattle.sentence.specs.Lines.{addressed, makerOf, readBody, readLine, standardOf}
 use Rattle.sentence_laws.proofs.Gsa as TGsa
-use Rattle.tonumbers.specs.Layout.{kindOf, numbersOf}
-use Rattle.fromnumbers.specs.Back.{recordAt}
+use Rattle.sentence.specs.Numbers.{kindOf, numbersOf}
+use Rattle.sentence.specs.Back.{recordAt}
 use Rattle.tripsnumbers.proofs.Ranged.{gga-fits, gll-fits, gsa-fits, gsv-fits, pirea-fits, pirpa-fits, pirpr-fits, pirsa-fits}
 use Rattle.tripsnumbers.proofs.Ranged.{pirsr-fits, pirta-fits, pirtr-fits, rmc-fits, vtg-fits, zda-fits}
 use Rattle.tripsnumbers.proofs.Whole.{back, Held}
@@ -34,48 +32,48 @@ use Rattle.sentence_laws.proofs.Maker as C
 use Rattle.sentence_laws.proofs.Gsv as TGsv
 
 -- A record that was read is the one that its numbers say, whatever numbers come after; a refused line has kind 0 and no record.
-abbrev pub Crosses : Reading → Type 0
-Crosses r = (kindOf (r .sentence) ≡ 0 → ⊥) → (rest : List ℤ) → recordAt (kindOf (r .sentence)) (numbersOf r ++ rest) ≡ r
+abbrev pub Crosses : Sentence → Type 0
+Crosses s = (kindOf s ≡ 0 → ⊥) → (rest : List ℤ) → recordAt (kindOf s) (numbersOf s ++ rest) ≡ s
 
-refused-crosses : (n f : ℕ) → Crosses (aloneOf (S.Refused n f))
+refused-crosses : (n f : ℕ) → Crosses (S.Refused n f)
 refused-crosses n f h rest = absurd (h refl)
 
 module _ (n : ℕ) (field : ℕ → List ℕ) where
   standard-crosses : (t : Talker) (k : Kind) → Crosses (standardOf t k n field)
   unfolding Held
-  standard-crosses t K.Gga = N.gga .write-read t n field (λ (x : Sentence). Crosses (aloneOf x)) refused-crosses
-      (λ r c w u h rest. back (S.Gga t r) blankGsa blankGsv rest (gga-fits r w))
-  standard-crosses t K.Gll = N.gll .write-read t n field (λ (x : Sentence). Crosses (aloneOf x)) refused-crosses
-      (λ r c w u h rest. back (S.Gll t r) blankGsa blankGsv rest (gll-fits r w))
-  standard-crosses t K.Gsa = TGsa.write-read t n field (λ (x : Reading). Crosses x) refused-crosses
-      (λ r e c w u h rest. back (S.Gsa t) r blankGsv rest (gsa-fits r e w))
-  standard-crosses t K.Gsv = TGsv.write-read t field (λ (x : Reading). Crosses x) refused-crosses
-      (λ r e g h rest. back (S.Gsv t) blankGsa r rest (gsv-fits r e g)) n
-  standard-crosses t K.Rmc = N.rmc .write-read t n field (λ (x : Sentence). Crosses (aloneOf x)) refused-crosses
-      (λ r c w u h rest. back (S.Rmc t r) blankGsa blankGsv rest (rmc-fits r w))
-  standard-crosses t K.Vtg = N.vtg .write-read t n field (λ (x : Sentence). Crosses (aloneOf x)) refused-crosses
-      (λ r c w u h rest. back (S.Vtg t r) blankGsa blankGsv rest (vtg-fits r w))
-  standard-crosses t K.Zda = N.zda .write-read t n field (λ (x : Sentence). Crosses (aloneOf x)) refused-crosses
-      (λ r c w u h rest. back (S.Zda t r) blankGsa blankGsv rest (zda-fits r w))
+  standard-crosses t K.Gga = N.gga .write-read t n field Crosses refused-crosses
+      (λ r c w u h rest. back (S.Gga t r) rest (gga-fits r w))
+  standard-crosses t K.Gll = N.gll .write-read t n field Crosses refused-crosses
+      (λ r c w u h rest. back (S.Gll t r) rest (gll-fits r w))
+  standard-crosses t K.Gsa = TGsa.write-read t n field Crosses refused-crosses
+      (λ r e c w u h rest. back (S.Gsa t r) rest (gsa-fits r e w))
+  standard-crosses t K.Gsv = TGsv.write-read t field Crosses refused-crosses
+      (λ r e g h rest. back (S.Gsv t r) rest (gsv-fits r e g)) n
+  standard-crosses t K.Rmc = N.rmc .write-read t n field Crosses refused-crosses
+      (λ r c w u h rest. back (S.Rmc t r) rest (rmc-fits r w))
+  standard-crosses t K.Vtg = N.vtg .write-read t n field Crosses refused-crosses
+      (λ r c w u h rest. back (S.Vtg t r) rest (vtg-fits r w))
+  standard-crosses t K.Zda = N.zda .write-read t n field Crosses refused-crosses
+      (λ r c w u h rest. back (S.Zda t r) rest (zda-fits r w))
 
   maker-crosses : (k : Pir) → Crosses (makerOf k n field)
   unfolding Held
-  maker-crosses P.Pr = C.pirpr .write-read n field (λ (x : Sentence). Crosses (aloneOf x)) refused-crosses
-      (λ r c w h rest. back (S.Pr r) blankGsa blankGsv rest (pirpr-fits r w))
-  maker-crosses P.Tr = C.pirtr .write-read n field (λ (x : Sentence). Crosses (aloneOf x)) refused-crosses
-      (λ r c w h rest. back (S.Tr r) blankGsa blankGsv rest (pirtr-fits r w))
-  maker-crosses P.Sr = C.pirsr .write-read n field (λ (x : Sentence). Crosses (aloneOf x)) refused-crosses
-      (λ r c w h rest. back (S.Sr r) blankGsa blankGsv rest (pirsr-fits r w))
-  maker-crosses P.Er = C.pirer .write-read n field (λ (x : Sentence). Crosses (aloneOf x)) refused-crosses
-      (λ v c w h rest. back S.Er blankGsa blankGsv rest tt)
-  maker-crosses P.Pa = C.pirpa .write-read n field (λ (x : Sentence). Crosses (aloneOf x)) refused-crosses
-      (λ r c w h rest. back (S.Pa r) blankGsa blankGsv rest (pirpa-fits r w))
-  maker-crosses P.Ta = C.pirta .write-read n field (λ (x : Sentence). Crosses (aloneOf x)) refused-crosses
-      (λ r c w h rest. back (S.Ta r) blankGsa blankGsv rest (pirta-fits r w))
-  maker-crosses P.Sa = C.pirsa .write-read n field (λ (x : Sentence). Crosses (aloneOf x)) refused-crosses
-      (λ r c w h rest. back (S.Sa r) blankGsa blankGsv rest (pirsa-fits r w))
-  maker-crosses P.Ea = C.pirea .write-read n field (λ (x : Sentence). Crosses (aloneOf x)) refused-crosses
-      (λ r c w h rest. back (S.Ea r) blankGsa blankGsv rest (pirea-fits r w))
+  maker-crosses P.Pr = C.pirpr .write-read n field Crosses refused-crosses
+      (λ r c w h rest. back (S.Pr r) rest (pirpr-fits r w))
+  maker-crosses P.Tr = C.pirtr .write-read n field Crosses refused-crosses
+      (λ r c w h rest. back (S.Tr r) rest (pirtr-fits r w))
+  maker-crosses P.Sr = C.pirsr .write-read n field Crosses refused-crosses
+      (λ r c w h rest. back (S.Sr r) rest (pirsr-fits r w))
+  maker-crosses P.Er = C.pirer .write-read n field Crosses refused-crosses
+      (λ v c w h rest. back S.Er rest tt)
+  maker-crosses P.Pa = C.pirpa .write-read n field Crosses refused-crosses
+      (λ r c w h rest. back (S.Pa r) rest (pirpa-fits r w))
+  maker-crosses P.Ta = C.pirta .write-read n field Crosses refused-crosses
+      (λ r c w h rest. back (S.Ta r) rest (pirta-fits r w))
+  maker-crosses P.Sa = C.pirsa .write-read n field Crosses refused-crosses
+      (λ r c w h rest. back (S.Sa r) rest (pirsa-fits r w))
+  maker-crosses P.Ea = C.pirea .write-read n field Crosses refused-crosses
+      (λ r c w h rest. back (S.Ea r) rest (pirea-fits r w))
 
   addressed-crosses : (a : Address) → Crosses (addressed a n field)
   addressed-crosses (Standard t k) = standard-crosses t k
@@ -90,6 +88,6 @@ pub read-crosses : (l : List ℕ) → Crosses (readLine l)
 unfolding readLine
 read-crosses l = go (eqb (lineRefusal l) 0)
   where
-    go : (b : Bool) → Crosses (pick b (readBody (bodyOf l)) (aloneOf (S.Refused (lineRefusal l) 0)))
+    go : (b : Bool) → Crosses (pick b (readBody (bodyOf l)) (S.Refused (lineRefusal l) 0))
     go true = body-crosses (bodyOf l)
     go false = refused-crosses (lineRefusal l) 0

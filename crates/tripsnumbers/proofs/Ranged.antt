@@ -21,24 +21,24 @@ use Rattle.form_mask.specs.Rates.{codeMost, rateLeast, rateMost}
 use Rattle.kind_pir_masks.specs.Command.{glonassMost, gpsMost, pirsrRow, pirsrWrong}
 use Rattle.form_number.specs.Fixed.{satelliteLeast, satelliteMost}
 use Rattle.form_letter.specs.Letters.{letter, modes, selections, statuses}
-use Rattle.records.specs.declared.CodeTold.{CodeTold}
-use Rattle.records.specs.declared.DatumAsked.{DatumAsked}
-use Rattle.records.specs.declared.DatumTold.{DatumTold}
-use Rattle.records.specs.declared.Entry.{Entry}
-use Rattle.records.specs.declared.Gga.{Gga}
-use Rattle.records.specs.declared.Gll.{Gll}
-use Rattle.records.specs.declared.Gsa.{Gsa}
-use Rattle.records.specs.declared.Gsv.{Gsv}
-use Rattle.records.specs.declared.MasksAsked.{MasksAsked}
-use Rattle.records.specs.declared.MasksTold.{MasksTold}
-use Rattle.records.specs.declared.PortAsked.{PortAsked}
-use Rattle.records.specs.declared.PortTold.{PortTold}
-use Rattle.records.specs.declared.Rmc.{Rmc}
-use Rattle.records.specs.declared.Vtg.{Vtg}
-use Rattle.records.specs.declared.Zda.{Zda}
+use Rattle.kind_pir_code.specs.declared.reply.CodeTold.{CodeTold}
+use Rattle.kind_pir_datum.specs.declared.command.DatumAsked.{DatumAsked}
+use Rattle.kind_pir_datum.specs.declared.reply.DatumTold.{DatumTold}
+use Rattle.kind_gsv.specs.declared.Entry.{Entry}
+use Rattle.kind_gga.specs.declared.Gga.{Gga}
+use Rattle.kind_gll.specs.declared.Gll.{Gll}
+use Rattle.kind_gsa.specs.declared.Gsa.{Gsa}
+use Rattle.kind_gsv.specs.declared.Gsv.{Gsv}
+use Rattle.kind_pir_masks.specs.declared.command.MasksAsked.{MasksAsked}
+use Rattle.kind_pir_masks.specs.declared.reply.MasksTold.{MasksTold}
+use Rattle.kind_pir_port.specs.declared.command.PortAsked.{PortAsked}
+use Rattle.kind_pir_port.specs.declared.reply.PortTold.{PortTold}
+use Rattle.kind_rmc.specs.declared.Rmc.{Rmc}
+use Rattle.kind_vtg.specs.declared.Vtg.{Vtg}
+use Rattle.kind_zda.specs.declared.Zda.{Zda}
 use Rattle.form.specs.declared.Maybe.{Maybe}
 use Rattle.form.specs.Values.{noMaybe}
-use Rattle.records.specs.Blank.{blankEntry, isBlank}
+use Rattle.kind_gsv.specs.Blank.{blankEntry, isBlank}
 use Rattle.form.specs.Row.{Form, one}
 use Rattle.form_position.specs.Forms.{place, variation}
 use Rattle.form_number.specs.Forms.{course, exact, fixed, height, kmh, knots, metres, number}
@@ -64,56 +64,75 @@ use Rattle.form_letter.proofs.Back.{clean-mode, clean-selection, clean-status}
 use Rattle.form.proofs.Lists.{all-four, all-twelve}
 use Rattle.form.proofs.Signed.{first-zero}
 use Rattle.kind_gsv.proofs.Laws.{good-row}
-use Rattle.slots.specs.Slots.{most}
-use Rattle.slots.specs.Layout.{_then_, dateLayout, entryLayout, kmhLayout, knotsLayout, Layout, listHeld, maybeLayout, nothing}
-use Rattle.slots.specs.Layout.{numberLayout, placeLayout, signed, signedLayout, whole, zoneLayout}
-use Rattle.slots.proofs.Layouts.{and-true}
-use Rattle.tonumbers.specs.Layout.{ggaLayout, gllLayout, gsaLayout, gsvLayout, pireaLayout, pirpaLayout, pirprLayout, pirsaLayout}
-use Rattle.tonumbers.specs.Layout.{pirsrLayout, pirtaLayout, pirtrLayout, rmcLayout, vtgLayout, zdaLayout}
+use Rattle.numbers.specs.Numbers.{most}
+use Rattle.numbers.specs.Layout.{_then_, Layout, listHeld, nothing}
+use Rattle.form_date.specs.Numbers.{dateLayout}
+use Rattle.kind_gsv.specs.Row.{entryLayout}
+use Rattle.form_number.specs.Numbers.{kmhLayout, knotsLayout}
+use Rattle.form.specs.Numbers.{maybeLayout}
+use Rattle.form_number.specs.Numbers.{numberLayout, signedLayout}
+use Rattle.form_position.specs.Numbers.{placeLayout}
+use Rattle.numbers.specs.Layout.{signed, whole}
+use Rattle.form_date.specs.Numbers.{zoneLayout}
+use Rattle.numbers.proofs.Layouts.{and-true}
+use Rattle.kind_gga.specs.Row.{ggaLayout}
+use Rattle.kind_gll.specs.Row.{gllLayout}
+use Rattle.kind_gsa.specs.Row.{gsaLayout}
+use Rattle.kind_gsv.specs.Row.{gsvLayout}
+use Rattle.kind_pir_code.specs.Reply.{pireaLayout}
+use Rattle.kind_pir_port.specs.Reply.{pirpaLayout}
+use Rattle.kind_pir_port.specs.Command.{pirprLayout}
+use Rattle.kind_pir_masks.specs.Reply.{pirsaLayout}
+use Rattle.kind_pir_masks.specs.Command.{pirsrLayout}
+use Rattle.kind_pir_datum.specs.Reply.{pirtaLayout}
+use Rattle.kind_pir_datum.specs.Command.{pirtrLayout}
+use Rattle.kind_rmc.specs.Row.{rmcLayout}
+use Rattle.kind_vtg.specs.Row.{vtgLayout}
+use Rattle.kind_zda.specs.Row.{zdaLayout}
 use Rattle.tripsnumbers.proofs.Fitted.{_⊕_, blank-held, both, Fitted, fitted-depending, fitted-measured, fitted-one, letter-held}
 use Rattle.tripsnumbers.proofs.Fitted.{outside-held, place-held, port-held, range-held, signed-held, six-held, three-held, true-zero}
 
 -- The forms that several kinds have.
-time-fits : Fitted (one time) maybeLayout
-time-fits = fitted-one time maybeLayout (λ m. range-held 0 lastHundredth (m .there) (m .value) (lit≤ tt))
+time-fits : Fitted (one time)
+time-fits = fitted-one time (λ m. range-held 0 lastHundredth (m .there) (m .value) (lit≤ tt))
 
-place-fits : Fitted (one place) placeLayout
-place-fits = fitted-one place placeLayout place-held
+place-fits : Fitted (one place)
+place-fits = fitted-one place place-held
 
-exact-fits : (w lo hi : ℕ) → hi ≤ most → Fitted (one (exact w lo hi)) whole
-exact-fits w lo hi h = fitted-one (exact w lo hi) whole (λ v. outside-held lo hi v h)
+exact-fits : (w lo hi : ℕ) → hi ≤ most → Fitted (one (exact w lo hi))
+exact-fits w lo hi h = fitted-one (exact w lo hi) (λ v. outside-held lo hi v h)
 
-fixed-fits : (w lo hi : ℕ) → hi ≤ most → Fitted (one (fixed w lo hi)) maybeLayout
-fixed-fits w lo hi h = fitted-one (fixed w lo hi) maybeLayout (λ m. range-held lo hi (m .there) (m .value) h)
+fixed-fits : (w lo hi : ℕ) → hi ≤ most → Fitted (one (fixed w lo hi))
+fixed-fits w lo hi h = fitted-one (fixed w lo hi) (λ m. range-held lo hi (m .there) (m .value) h)
 
-number-fits : Fitted (one number) numberLayout
-number-fits = fitted-one number numberLayout (λ n. range-held 0 numberMost (n .there) (n .value) (lit≤ tt))
+number-fits : Fitted (one number)
+number-fits = fitted-one number (λ n. range-held 0 numberMost (n .there) (n .value) (lit≤ tt))
 
-course-fits : Fitted (one course) numberLayout
-course-fits = fitted-one course numberLayout (λ n. range-held 0 (fullCircle - 1) (n .there) (n .value) (lit≤ tt))
+course-fits : Fitted (one course)
+course-fits = fitted-one course (λ n. range-held 0 (fullCircle - 1) (n .there) (n .value) (lit≤ tt))
 
-knots-fits : Fitted (one knots) knotsLayout
-knots-fits = fitted-one knots knotsLayout (λ n. range-held 0 numberMost (n .there) (n .value) (lit≤ tt))
+knots-fits : Fitted (one knots)
+knots-fits = fitted-one knots (λ n. range-held 0 numberMost (n .there) (n .value) (lit≤ tt))
 
-kmh-fits : Fitted (one kmh) kmhLayout
-kmh-fits = fitted-one kmh kmhLayout (λ n. range-held 0 numberMost (n .there) (n .value) (lit≤ tt))
+kmh-fits : Fitted (one kmh)
+kmh-fits = fitted-one kmh (λ n. range-held 0 numberMost (n .there) (n .value) (lit≤ tt))
 
-metres-fits : Fitted metres signedLayout
+metres-fits : Fitted metres
 metres-fits =
     fitted-measured (unit "M") (λ g. g .there) (λ z. z .there) (one height)
-    (fitted-one height signedLayout (λ z. signed-held numberMost (z .there) (z .value) (lit< tt)))
+    (fitted-one height (λ z. signed-held numberMost (z .there) (z .value) (lit< tt)))
 
-letter-fits : (set : String) → Clean (ascii set) → Fitted (one (letter set)) whole
-letter-fits set c = fitted-one (letter set) whole (λ v. letter-held (ascii set) v c)
+letter-fits : (set : String) → Clean (ascii set) → Fitted (one (letter set))
+letter-fits set c = fitted-one (letter set) (λ v. letter-held (ascii set) v c)
 
-mask-fits : (w hi : ℕ) → hi ≤ most → Fitted (one (satelliteMask w hi)) maybeLayout
-mask-fits w hi h = fitted-one (satelliteMask w hi) maybeLayout (λ m. range-held 0 hi (m .there) (m .value) h)
+mask-fits : (w hi : ℕ) → hi ≤ most → Fitted (one (satelliteMask w hi))
+mask-fits w hi h = fitted-one (satelliteMask w hi) (λ m. range-held 0 hi (m .there) (m .value) h)
 
-whole-mask-fits : (w hi : ℕ) → hi ≤ most → Fitted (one (wholeMask w hi)) whole
-whole-mask-fits w hi h = fitted-one (wholeMask w hi) whole (λ v. outside-held 0 hi v h)
+whole-mask-fits : (w hi : ℕ) → hi ≤ most → Fitted (one (wholeMask w hi))
+whole-mask-fits w hi h = fitted-one (wholeMask w hi) (λ v. outside-held 0 hi v h)
 
-empty-fits : Fitted (one emptyField) nothing
-empty-fits = fitted-one emptyField nothing (λ v e. refl)
+empty-fits : Fitted (one emptyField)
+empty-fits = fitted-one emptyField (λ v e. refl)
 
 pub gga-fits : (r : Gga) → ggaWrong r ≡ 0 → ggaLayout .held r ≡ true
 unfolding faultBy ggaRow ggaLayout
@@ -128,8 +147,8 @@ gll-fits r e = (place-fits ⊕ time-fits ⊕ letter-fits statuses clean-status �
 pub rmc-fits : (r : Rmc) → rmcWrong r ≡ 0 → rmcLayout .held r ≡ true
 unfolding faultBy rmcRow rmcLayout
 rmc-fits r e =
-    (time-fits ⊕ letter-fits statuses clean-status ⊕ place-fits ⊕ knots-fits ⊕ course-fits ⊕ fitted-one ddmmyy dateLayout six-held
-    ⊕ fitted-one variation signedLayout (λ z. signed-held (halfCircle - 1) (z .there) (z .value) (lit< tt)) ⊕ letter-fits modes clean-mode)
+    (time-fits ⊕ letter-fits statuses clean-status ⊕ place-fits ⊕ knots-fits ⊕ course-fits ⊕ fitted-one ddmmyy six-held
+    ⊕ fitted-one variation (λ z. signed-held (halfCircle - 1) (z .there) (z .value) (lit< tt)) ⊕ letter-fits modes clean-mode)
     .fits _ 0 0 e .0
 
 pub vtg-fits : (r : Vtg) → vtgWrong r ≡ 0 → vtgLayout .held r ≡ true
@@ -143,27 +162,27 @@ vtg-fits r e =
 pub zda-fits : (r : Zda) → zdaWrong r ≡ 0 → zdaLayout .held r ≡ true
 unfolding faultBy zdaRow zdaLayout
 zda-fits r e =
-    (time-fits ⊕ fitted-one dayMonthYear dateLayout three-held
-    ⊕ fitted-one hoursMinutes zoneLayout (λ z. signed-held zoneMost (z .there) (z .minutes) (lit< tt))) .fits _ 0 0 e .0
+    (time-fits ⊕ fitted-one dayMonthYear three-held
+    ⊕ fitted-one hoursMinutes (λ z. signed-held zoneMost (z .there) (z .minutes) (lit< tt))) .fits _ 0 0 e .0
 
-needed-fits : (f : Form Got Maybe) → ((m : Maybe) → f .fault m ≡ 0 → maybeLayout .held m ≡ true) → (key : Bool)
-    → Fitted (one (needed f key)) maybeLayout
-needed-fits f h key = fitted-one (needed f key) maybeLayout (λ m e. h m (alike-parts key (m .there) (f .fault m) e .1))
+needed-fits : (f : Form Got Maybe) → ((m : Maybe) → f .fault m ≡ 0 → f .layout .held m ≡ true) → (key : Bool)
+    → Fitted (one (needed f key))
+needed-fits f h key = fitted-one (needed f key) (λ m e. h m (alike-parts key (m .there) (f .fault m) e .1))
 
 pub pirpr-fits : (r : PortAsked) → pirprWrong r ≡ 0 → pirprLayout .held r ≡ true
 unfolding faultBy pirprRow pirprLayout
 pirpr-fits r e =
     (fixed-fits 1 0 portMost (lit≤ tt)
-    ⊕ fitted-depending 2 7 (λ g. g .there) (λ m. m .there) (one rate) setting
-    (fitted-one rate maybeLayout (λ m. range-held rateLeast rateMost (m .there) (m .value) (lit≤ tt)))
+    ⊕ fitted-depending 2 7 (maybeLayout then maybeLayout) (λ g. g .there) (λ m. m .there) (one rate) setting (λ k v. refl)
+    (fitted-one rate (λ m. range-held rateLeast rateMost (m .there) (m .value) (lit≤ tt)))
     (λ key. needed-fits (fixed 1 0 protocolMost) (λ m. range-held 0 protocolMost (m .there) (m .value) (lit≤ tt)) key
     ⊕ needed-fits portMask (λ m. port-held (m .there) (m .value)) key)) .fits _ 0 0 e .0
 
 pub pirtr-fits : (r : DatumAsked) → pirtrWrong r ≡ 0 → pirtrLayout .held r ≡ true
 unfolding faultBy pirtrRow pirtrLayout
 pirtr-fits r e =
-    fitted-depending 1 6 (λ g. g .there) (λ m. m .there) (one (fixed 1 0 datumMost)) zone (fixed-fits 1 0 datumMost (lit≤ tt))
-    (λ key. fitted-one (hhmm key) zoneLayout
+    fitted-depending 1 6 zoneLayout (λ g. g .there) (λ m. m .there) (one (fixed 1 0 datumMost)) zone (λ k v. refl) (fixed-fits 1 0 datumMost (lit≤ tt))
+    (λ key. fitted-one (hhmm key)
     (λ z i. signed-held zoneMost (z .there) (z .minutes) (lit< tt) (alike-parts key (z .there) _ i .1)))
     .fits _ 0 0 e .0
 
@@ -174,13 +193,13 @@ pirsr-fits r e = (mask-fits 8 gpsMost (lit≤ tt) ⊕ mask-fits 6 glonassMost (l
 pub pirpa-fits : (r : PortTold) → pirpaWrong r ≡ 0 → pirpaLayout .held r ≡ true
 unfolding faultBy pirpaRow pirpaLayout
 pirpa-fits r e =
-    (exact-fits 1 0 portMost (lit≤ tt) ⊕ fitted-one (filled rate) whole (λ v. range-held rateLeast rateMost true v (lit≤ tt))
-    ⊕ exact-fits 1 0 protocolMost (lit≤ tt) ⊕ fitted-one (filled portMask) whole (λ v. port-held true v)) .fits _ 0 0 e .0
+    (exact-fits 1 0 portMost (lit≤ tt) ⊕ fitted-one (filled rate) (λ v. range-held rateLeast rateMost true v (lit≤ tt))
+    ⊕ exact-fits 1 0 protocolMost (lit≤ tt) ⊕ fitted-one (filled portMask) (λ v. port-held true v)) .fits _ 0 0 e .0
 
 pub pirta-fits : (r : DatumTold) → pirtaWrong r ≡ 0 → pirtaLayout .held r ≡ true
 unfolding faultBy pirtaRow pirtaLayout
 pirta-fits r e =
-    (exact-fits 1 0 datumMost (lit≤ tt) ⊕ fitted-one filledZone signed (λ z. signed-held zoneMost true z (lit< tt))) .fits _ 0 0 e .0
+    (exact-fits 1 0 datumMost (lit≤ tt) ⊕ fitted-one filledZone (λ z. signed-held zoneMost true z (lit< tt))) .fits _ 0 0 e .0
 
 pub pirsa-fits : (r : MasksTold) → pirsaWrong r ≡ 0 → pirsaLayout .held r ≡ true
 unfolding faultBy pirsaRow pirsaLayout
@@ -188,10 +207,10 @@ pirsa-fits r e = (whole-mask-fits 8 gpsMost (lit≤ tt) ⊕ whole-mask-fits 6 gl
 
 pub pirea-fits : (r : CodeTold) → pireaWrong r ≡ 0 → pireaLayout .held r ≡ true
 unfolding faultBy pireaRow pireaLayout
-pirea-fits r e = fitted-one code whole (λ v. outside-held 0 codeMost v (lit≤ tt)) .fits _ 0 0 e .0
+pirea-fits r e = fitted-one code (λ v. outside-held 0 codeMost v (lit≤ tt)) .fits _ 0 0 e .0
 
 -- The twelve satellites of a GSA, four by four.
-satellite-fits : Fitted (one (fixed 2 satelliteLeast satelliteMost)) maybeLayout
+satellite-fits : Fitted (one (fixed 2 satelliteLeast satelliteMost))
 satellite-fits = fixed-fits 2 satelliteLeast satelliteMost (lit≤ tt)
 
 abbrev fours : Layout (Maybe × (Maybe × (Maybe × Maybe)))
@@ -241,9 +260,9 @@ entry-held e i =
     (both (range-held 0 359 (e .azimuth .there) (e .azimuth .value) (lit≤ tt) (c .0))
     (range-held 0 99 (e .signal .there) (e .signal .value) (lit≤ tt) (d .0))))
 
-entry-fits : (on : Bool) → Fitted (one (G.entryIf on)) entryLayout
-entry-fits true = fitted-one (G.entryIf true) entryLayout entry-held
-entry-fits false = fitted-one (G.entryIf false) entryLayout (λ e i. blank-held e (true-zero (isBlank e) i))
+entry-fits : (on : Bool) → Fitted (one (G.entryIf on))
+entry-fits true = fitted-one (G.entryIf true) entry-held
+entry-fits false = fitted-one (G.entryIf false) (λ e i. blank-held e (true-zero (isBlank e) i))
 
 abbrev at : Gsv → ℕ → Entry
 at r k = getD (r .entries) k blankEntry

@@ -8,8 +8,8 @@ use lib.IntN.{ℤ}
 use lib.ListN.{drop}
 use Rattle.digits.specs.Ascii.{ascii}
 use Rattle.digits.specs.Decimal.{findIn}
-use Rattle.slots.specs.Slots.{isThere}
-use Rattle.slots.specs.Layout.{numberAt, whole}
+use Rattle.numbers.specs.Numbers.{isThere}
+use Rattle.numbers.specs.Layout.{numberAt, whole}
 use Rattle.phrases.specs.Phrases.{is, measureText}
 use Rattle.words.specs.Codes.{codeText}
 

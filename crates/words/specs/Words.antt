@@ -6,7 +6,7 @@ use lib.Dec.{eqb, ltb}
 use lib.IntN.{ℤ}
 use lib.ListN.{drop}
 use Rattle.digits.specs.Ascii.{ascii}
-use Rattle.slots.specs.Layout.{whole}
+use Rattle.numbers.specs.Layout.{whole}
 use Rattle.words.specs.Nth.{nth}
 use Rattle.words.specs.Table.{filled}
 

@@ -13,7 +13,7 @@ fn put_form(out: &mut [u8], at: usize, f: u8, numbers: &[i64]) -> usize
     if digits::find(b"nktdphvz", f) < 8 {
         return phrases::put_measure(out, at, f, numbers);
     }
-    code::put_code(out, at, f, slots::whole_at(numbers, 0))
+    code::put_code(out, at, f, numbers::whole_at(numbers, 0))
 }
 
 // How many marks stand before the numbers of a value.
@@ -47,7 +47,7 @@ pub(crate) fn taken(f: u8) -> usize
 pub(crate) fn is_sent(f: u8, numbers: &[i64]) -> bool
     ensures { λ r. ⌜ r ≡ isSent f (now (numbers .entry)) ⌝ }
 {
-    (f < b'a') | slots::there_at(numbers, 0)
+    (f < b'a') | numbers::there_at(numbers, 0)
 }
 
 // The place `k` further on; none is past the end.

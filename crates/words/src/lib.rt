@@ -70,7 +70,7 @@ pub fn put_words(out: &mut [u8], at: usize, kind: u32, numbers: &[i64]) -> usize
     let table = nth::nth_of(tables, b';', kind as usize);
     let a = table::put_table(out, at, table, numbers, talkers(kind));
     if kind == 4 {
-        return put_entries(out, a, numbers, slots::whole_at(numbers, 4));
+        return put_entries(out, a, numbers, numbers::whole_at(numbers, 4));
     }
     a
 }

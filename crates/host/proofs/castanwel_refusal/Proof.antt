@@ -1,14 +1,19 @@
--- `castanwel_refusal` meets its contract: its two results are the fields of the refusal that the line's sentence has.
-use mathlib.Core.Path.{_∙_, ap}
+-- `castanwel_refusal` meets its contract: who lends room for every record is told the refusal of the line.
+use mathlib.Core.Path.{_∙_, ap, refl}
+use lib.IntN.{pos}
+use lib.ListN.{replicate}
 use borrow.Author.Needs.{needs}
-use Rattle.reading.specs.Lines.{refusalOf}
+use Rattle.numbers.specs.declared.Told.{Told}
+use Rattle.tripsnumbers.proofs.Told.{told-refusal}
 use Rattle.host.proofs.castanwel_refusal.Statement.{statement}
 use Rattle.host.proofs.castanwel_refusal.Tie as tie
 
 returns : tie.Need-returns
 returns c =
-    let e = c .refusal-of .ensures ∙ ap (λ r. refusalOf (r .sentence)) (c .before .read-line .ensures) in
-    (ap (λ f. f .no) e, ap (λ f. f .field) e)
+    let b = c .before in
+    let t = b .read .ensures .0 in
+    let q = told-refusal (b .before .before .before .args .line .now) (replicate 33 (pos 0)) refl in
+    (ap (λ (x : Told). x .no) t ∙ q .0, ap (λ (x : Told). x .field) t ∙ q .1)
 
 pub castanwel-refusal-spec : {M : Type 1} → statement M
-castanwel-refusal-spec = tie.close (tie.spec (λ c κs. search needs) (λ c κs. search needs) returns)
+castanwel-refusal-spec = tie.close (tie.spec (λ c. search needs) (λ c κs. search needs) returns)

@@ -1,5 +1,5 @@
 -- Each value by itself.
-use Rattle.records.specs.Blank.{isBlank}
+use Rattle.kind_gsv.specs.Blank.{isBlank}
 use borrow.Author.Needs.{needs}
 use Rattle.kind_gsv.proofs.is_blank.Statement.{statement}
 use Rattle.kind_gsv.proofs.is_blank.Tie as tie

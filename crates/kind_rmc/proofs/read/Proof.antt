@@ -1,20 +1,19 @@
 -- `read` meets its contract: the count decides, then each field's form.
-use mathlib.Core.Path.{_∙_}
 use borrow.Author.Needs.{needs}
-use borrow.Author.Tests.{eq-eqb, ne-eqb}
-use Rattle.form.specs.Kind.{readBy}
+use Rattle.form.proofs.Told.{tells-count, tells-fields}
 use Rattle.kind_rmc.specs.Row.{rmcRow}
 use Rattle.kind_rmc.proofs.read.Statement.{statement}
 use Rattle.kind_rmc.proofs.read.Tie as tie
 
 returns : tie.Need-returns
-unfolding readBy rmcRow
-returns c = rw (ne-eqb _ _ (c .if1 .taken))
+unfolding rmcRow
+returns c = tells-count _ _ _ _ _ (c .refuse .ensures) (c .before .if1 .taken)
 
 returns-2 : tie.Need-returns-2
-unfolding readBy rmcRow
+unfolding rmcRow
 returns-2 c =
-    let b3 = c .before .before .before in
+    let d = c .before .before in
+    let b3 = d .before .before .before in
     let b4 = b3 .before in
     let b5 = b4 .before in
     let b6 = b5 .before in
@@ -22,22 +21,13 @@ returns-2 c =
     let b8 = b7 .before in
     let b10 = b8 .before .before in
     let b11 = b10 .before in
-    c .rmc-from .ensures ∙ rw (
-      eq-eqb _ _ (b11 .if1 .left),
-      c .before .letter-in2 .ensures,
-      b3 .variation-in .ensures,
-      b4 .six-in .ensures,
-      b5 .below-in .ensures,
-      b6 .number-in .ensures,
-      b7 .position-in .ensures,
-      b8 .letter-in .ensures,
-      b10 .time-in .ensures,
-    )
+    tells-fields _ _ _ _ _ _ (c .before .rmc-from .ensures) (b11 .if1 .left) (rw (d .before .letter-in2 .ensures, b3 .variation-in .ensures, b4 .six-in .ensures, b5 .below-in .ensures, b6 .number-in .ensures, b7 .position-in .ensures, b8 .letter-in .ensures, b10 .time-in .ensures))
 
 pub read-spec : {M : Type 1} → statement M
 read-spec =
     tie.close
     (tie.spec
+    (λ c κs. search needs)
     returns
     (λ c κs. search needs)
     (λ c. search needs)
@@ -50,4 +40,5 @@ read-spec =
     (λ c. search needs)
     (λ c κs. search needs)
     (λ c κs. search needs)
+    (λ c. search needs)
     returns-2)

@@ -1,35 +1,28 @@
 -- `zda_from` meets its contract: the first wrong field is found from the last on, as the definition says; without one the record is made.
 use borrow.Author.Needs.{needs}
-use borrow.Author.Tests.{eq-eqb, ne-eqb}
-use Rattle.form.specs.Kind.{answerBy}
+use Rattle.form.proofs.Told.{tells-right, tells-wrong}
 use Rattle.kind_zda.specs.Row.{zdaRow}
 use Rattle.kind_zda.proofs.zda_from.Statement.{statement}
 use Rattle.kind_zda.proofs.zda_from.Tie as tie
 
 returns : tie.Need-returns
-unfolding answerBy zdaRow
+unfolding zdaRow
 returns c =
-    let b2 = c .before .before in
+    let d = c .before in
+    let b2 = d .before .before in
     let b3 = b2 .before in
-    rw (← b3 .near .ensures, ← b2 .near2 .ensures, ← c .before .near3 .ensures, ne-eqb _ _ (c .if1 .taken))
+    tells-wrong _ _ _ _ (d .before .near3 .result) (c .refuse .ensures) (rw (← b3 .near .ensures, ← b2 .near2 .ensures, ← d .before .near3 .ensures)) (d .if1 .taken)
 
 returns-2 : tie.Need-returns-2
-unfolding answerBy zdaRow
+unfolding zdaRow
 returns-2 c =
-    let b2 = c .before .before in
-    let b3 = b2 .before in
+    let d = c .before .before in
+    let b2 = d .before .before in
+    let b3 = b2 .before .before in
     let b4 = b3 .before in
     let b5 = b4 .before in
     let b6 = b5 .before in
-    rw (
-      ← b6 .near .ensures,
-      ← b5 .near2 .ensures,
-      ← b4 .near3 .ensures,
-      eq-eqb _ _ (b3 .if1 .left),
-      b2 .kept .ensures,
-      c .before .dated .ensures,
-      c .zoned .ensures,
-    )
+    tells-right _ _ _ _ _ (c .before .lay .ensures) (rw (← b6 .near .ensures, ← b5 .near2 .ensures, ← b4 .near3 .ensures) (b3 .if1 .left)) (rw (b2 .kept .ensures, d .before .dated .ensures, d .zoned .ensures))
 
 pub zda-from-spec : {M : Type 1} → statement M
 zda-from-spec =
@@ -38,8 +31,11 @@ zda-from-spec =
     (λ c κs. search needs)
     (λ c κs. search needs)
     (λ c κs. search needs)
+    (λ c κs. search needs)
     returns
     (λ c κs. search needs)
     (λ c κs. search needs)
     (λ c κs. search needs)
+    (λ c κs. search needs)
+    (λ c. search needs)
     returns-2)

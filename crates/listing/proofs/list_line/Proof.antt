@@ -4,9 +4,9 @@ use mathlib.Core.Path.{_∙_, ap, refl}
 use lib.IntN.{pos, ℤ}
 use lib.ListN.{replicate}
 use Rattle.put.proofs.Chain.{as-text}
-use Rattle.reading.specs.Lines.{readLine}
-use Rattle.hostrecords.specs.declared.Told.{Told}
-use Rattle.hostrecords.specs.ToHost.{toldFor}
+use Rattle.sentence.specs.Lines.{readLine}
+use Rattle.numbers.specs.declared.Told.{Told}
+use Rattle.sentence.specs.ToHost.{toldFor}
 use Rattle.rows.specs.Row.{toldRow}
 use Rattle.rows.proofs.Whole.{row-is}
 use borrow.Author.Needs.{needs}

@@ -1,227 +1,101 @@
--- Each sentence is a case of what a line is to the receiver.
-use mathlib.Core.Path.{sym, _∙_, ap, subst}
-use borrow.Author.Needs.{needs}
-use Rattle.records.specs.declared.Reading.{Reading}
-use Rattle.records.specs.declared.Sentence.{Sentence}
-use Rattle.receiver.specs.Command.{sentenceOutcome, Does}
+-- What was told of the line is a refusal, one of the four commands, or another kind.
+use mathlib.Core.Path.{refl, subst}
+use Rattle.sentence.specs.Sentence.{Sentence}
+use Rattle.receiver.specs.Command.{Does, sentenceOutcome}
 use Rattle.receiver.proofs.DoesLaws.{does-refuse}
+use Rattle.receiver.proofs.LineLaws.{line-code, line-datum, line-masks, line-other, line-port, line-refused}
+use borrow.Author.Needs.{needs}
 use Rattle.receiver.proofs.take_line.Statement.{statement}
 use Rattle.receiver.proofs.take_line.Tie as tie
 
 returns : tie.Need-returns
 returns c =
-    let b2 = c .before .before in
-    let b5 = b2 .before .before .before in
-    let b7 = b5 .before .before in
-    let b10 = b7 .before .before .before in
-    let args = b10 .args in
-    let read-line = b7 .read-line in
-    let port = b2 .port in
-    subst (λ (x : Sentence). Does (args .s) (sentenceOutcome (args .s) (args .arrival) x) (args .out .now) (port .result)
-    (port .last .1 .1 .1 .0)) (sym (sym (ap (λ (r : Reading). r .sentence) (read-line .ensures)) ∙ b5 .sentence .given .1))
-    (port .ensures)
+    let b4 = c .before .before .before .before in
+    let a = b4 .before .before .before .before .args in
+    does-refuse (a .s) _ (a .out .now) (c .refuse .result) _ 1 _ (c .refuse .ensures)
+    (line-refused (a .line .now) _ refl (b4 .read .result) _ (b4 .read .ensures) (a .s) (a .arrival) (c .before .if1 .taken))
 
 returns-2 : tie.Need-returns-2
 returns-2 c =
-    let b2 = c .before .before in
-    let b5 = b2 .before .before .before in
-    let b7 = b5 .before .before in
+    let port = c .before .before .port in
+    let b4 = c .before .before .before .before in
+    let b6 = b4 .before .before in
+    let b7 = b6 .before in
     let b10 = b7 .before .before .before in
-    let args = b10 .args in
-    let read-line = b7 .read-line in
-    let place = b2 .place in
-    subst (λ (x : Sentence). Does (args .s) (sentenceOutcome (args .s) (args .arrival) x) (args .out .now) (place .result)
-    (place .last .1 .1 .0)) (sym (sym (ap (λ (r : Reading). r .sentence) (read-line .ensures)) ∙ b5 .sentence2 .given .1))
-    (place .ensures)
+    let a = b10 .before .before .before .before .args in
+    subst (λ (x : Sentence). Does (a .s) (sentenceOutcome (a .s) (a .arrival) x) (a .out .now) (port .result) (port .last .1 .1 .1 .0))
+    (line-port (a .line .now) _ refl (b10 .read .result) _ (b10 .read .ensures) (b7 .if1 .left)
+    (b6 .match .keys1) (b4 .at .result) (b4 .at .ensures)) (port .ensures)
 
 returns-3 : tie.Need-returns-3
 returns-3 c =
-    let b2 = c .before .before in
-    let b5 = b2 .before .before .before in
-    let b7 = b5 .before .before in
+    let place = c .before .before .place in
+    let b4 = c .before .before .before .before in
+    let b6 = b4 .before .before in
+    let b7 = b6 .before in
     let b10 = b7 .before .before .before in
-    let args = b10 .args in
-    let read-line = b7 .read-line in
-    let satellites = b2 .satellites in
-    subst (λ (x : Sentence). Does (args .s) (sentenceOutcome (args .s) (args .arrival) x) (args .out .now) (satellites .result)
-    (satellites .last .1 .1 .0)) (sym (sym (ap (λ (r : Reading). r .sentence) (read-line .ensures)) ∙ b5 .sentence3 .given .1))
-    (satellites .ensures)
+    let a = b10 .before .before .before .before .args in
+    subst (λ (x : Sentence). Does (a .s) (sentenceOutcome (a .s) (a .arrival) x) (a .out .now) (place .result) (place .last .1 .1 .0))
+    (line-datum (a .line .now) _ refl (b10 .read .result) _ (b10 .read .ensures) (b7 .if1 .left)
+    (b6 .match .keys2) (b4 .at2 .result) (b4 .at2 .ensures)) (place .ensures)
 
 returns-4 : tie.Need-returns-4
 returns-4 c =
-    let b2 = c .before .before in
-    let b4 = b2 .before .before in
+    let satellites = c .before .before .satellites in
+    let b4 = c .before .before .before .before in
     let b6 = b4 .before .before in
-    let b9 = b6 .before .before .before in
-    let args = b9 .args in
-    let read-line = b6 .read-line in
-    let test = b2 .test in
-    subst (λ (x : Sentence). Does (args .s) (sentenceOutcome (args .s) (args .arrival) x) (args .out .now) (test .result)
-    (test .last .1 .0)) (sym (sym (ap (λ (r : Reading). r .sentence) (read-line .ensures)) ∙ b4 .enum-told .given .1)) (test .ensures)
+    let b7 = b6 .before in
+    let b10 = b7 .before .before .before in
+    let a = b10 .before .before .before .before .args in
+    subst (λ (x : Sentence). Does (a .s) (sentenceOutcome (a .s) (a .arrival) x) (a .out .now) (satellites .result)
+    (satellites .last .1 .1 .0))
+    (line-masks (a .line .now) _ refl (b10 .read .result) _ (b10 .read .ensures) (b7 .if1 .left)
+    (b6 .match .keys3) (b4 .at3 .result) (b4 .at3 .ensures)) (satellites .ensures)
 
 returns-5 : tie.Need-returns-5
 returns-5 c =
-    let b2 = c .before .before in
-    let b4 = b2 .before .before in
-    let b7 = b4 .before .before .before in
-    let args = b7 .args in
-    does-refuse (args .s) _ (args .out .now) (c .refuse .result) _ 1 _ (c .refuse .ensures)
-    (ap (sentenceOutcome (args .s) (args .arrival))
-    (sym (ap (λ (r : Reading). r .sentence) (b4 .read-line .ensures)) ∙ b2 .sentence4 .given .1))
+    let test = c .before .before .test in
+    let b4 = c .before .before .before .before in
+    let b5 = b4 .before in
+    let b8 = b5 .before .before .before in
+    let a = b8 .before .before .before .before .args in
+    subst (λ (x : Sentence). Does (a .s) (sentenceOutcome (a .s) (a .arrival) x) (a .out .now) (test .result) (test .last .1 .0))
+    (line-code (a .line .now) _ refl (b8 .read .result) _ (b8 .read .ensures) (b5 .if1 .left) (b4 .match .keys4)) (test .ensures)
 
 returns-6 : tie.Need-returns-6
 returns-6 c =
-    let b3 = c .before .before .before in
-    let b6 = b3 .before .before .before in
-    let args = b6 .args in
-    does-refuse (args .s) _ (args .out .now) (c .refuse2 .result) 9 1 0 (c .refuse2 .ensures)
-    (ap (sentenceOutcome (args .s) (args .arrival))
-    (sym (ap (λ (r : Reading). r .sentence) (b3 .read-line .ensures)) ∙ c .before .enum-told2 .given .1))
-
-returns-7 : tie.Need-returns-7
-returns-7 c =
-    let b3 = c .before .before .before in
-    let b6 = b3 .before .before .before in
-    let args = b6 .args in
-    does-refuse (args .s) _ (args .out .now) (c .refuse3 .result) 9 1 0 (c .refuse3 .ensures)
-    (ap (sentenceOutcome (args .s) (args .arrival))
-    (sym (ap (λ (r : Reading). r .sentence) (b3 .read-line .ensures)) ∙ c .before .enum-told3 .given .1))
-
-returns-8 : tie.Need-returns-8
-returns-8 c =
-    let b3 = c .before .before .before in
-    let b6 = b3 .before .before .before in
-    let args = b6 .args in
-    does-refuse (args .s) _ (args .out .now) (c .refuse4 .result) 9 1 0 (c .refuse4 .ensures)
-    (ap (sentenceOutcome (args .s) (args .arrival))
-    (sym (ap (λ (r : Reading). r .sentence) (b3 .read-line .ensures)) ∙ c .before .enum-told4 .given .1))
-
-returns-9 : tie.Need-returns-9
-returns-9 c =
-    let b3 = c .before .before .before in
-    let b6 = b3 .before .before .before in
-    let args = b6 .args in
-    does-refuse (args .s) _ (args .out .now) (c .refuse5 .result) 9 1 0 (c .refuse5 .ensures)
-    (ap (sentenceOutcome (args .s) (args .arrival))
-    (sym (ap (λ (r : Reading). r .sentence) (b3 .read-line .ensures)) ∙ c .before .enum-told5 .given .1))
-
-returns-10 : tie.Need-returns-10
-returns-10 c =
-    let b3 = c .before .before .before in
-    let b6 = b3 .before .before .before in
-    let args = b6 .args in
-    does-refuse (args .s) _ (args .out .now) (c .refuse6 .result) 9 1 0 (c .refuse6 .ensures)
-    (ap (sentenceOutcome (args .s) (args .arrival))
-    (sym (ap (λ (r : Reading). r .sentence) (b3 .read-line .ensures)) ∙ c .before .enum-told6 .given .1))
-
-returns-11 : tie.Need-returns-11
-returns-11 c =
-    let b3 = c .before .before .before in
-    let b6 = b3 .before .before .before in
-    let args = b6 .args in
-    does-refuse (args .s) _ (args .out .now) (c .refuse7 .result) 9 1 0 (c .refuse7 .ensures)
-    (ap (sentenceOutcome (args .s) (args .arrival))
-    (sym (ap (λ (r : Reading). r .sentence) (b3 .read-line .ensures)) ∙ c .before .enum-told7 .given .1))
-
-returns-12 : tie.Need-returns-12
-returns-12 c =
-    let b3 = c .before .before .before in
-    let b6 = b3 .before .before .before in
-    let args = b6 .args in
-    does-refuse (args .s) _ (args .out .now) (c .refuse8 .result) 9 1 0 (c .refuse8 .ensures)
-    (ap (sentenceOutcome (args .s) (args .arrival))
-    (sym (ap (λ (r : Reading). r .sentence) (b3 .read-line .ensures)) ∙ c .before .enum-told8 .given .1))
-
-returns-13 : tie.Need-returns-13
-returns-13 c =
-    let b3 = c .before .before .before in
-    let b6 = b3 .before .before .before in
-    let args = b6 .args in
-    does-refuse (args .s) _ (args .out .now) (c .refuse9 .result) 9 1 0 (c .refuse9 .ensures)
-    (ap (sentenceOutcome (args .s) (args .arrival))
-    (sym (ap (λ (r : Reading). r .sentence) (b3 .read-line .ensures)) ∙ c .before .enum-told9 .given .1))
-
-returns-14 : tie.Need-returns-14
-returns-14 c =
-    let b3 = c .before .before .before in
-    let b6 = b3 .before .before .before in
-    let args = b6 .args in
-    does-refuse (args .s) _ (args .out .now) (c .refuse10 .result) 9 1 0 (c .refuse10 .ensures)
-    (ap (sentenceOutcome (args .s) (args .arrival))
-    (sym (ap (λ (r : Reading). r .sentence) (b3 .read-line .ensures)) ∙ c .before .enum-told10 .given .1))
-
-returns-15 : tie.Need-returns-15
-returns-15 c =
-    let b3 = c .before .before .before in
-    let b6 = b3 .before .before .before in
-    let args = b6 .args in
-    does-refuse (args .s) _ (args .out .now) (c .refuse11 .result) 9 1 0 (c .refuse11 .ensures)
-    (ap (sentenceOutcome (args .s) (args .arrival))
-    (sym (ap (λ (r : Reading). r .sentence) (b3 .read-line .ensures)) ∙ c .before .enum-told11 .given .1))
-
-returns-16 : tie.Need-returns-16
-returns-16 c =
-    let b3 = c .before .before .before in
-    let b6 = b3 .before .before .before in
-    let args = b6 .args in
-    does-refuse (args .s) _ (args .out .now) (c .refuse12 .result) 9 1 0 (c .refuse12 .ensures)
-    (ap (sentenceOutcome (args .s) (args .arrival))
-    (sym (ap (λ (r : Reading). r .sentence) (b3 .read-line .ensures)) ∙ c .before .enum-told12 .given .1))
+    let b2 = c .before .before in
+    let b5 = b2 .before .before .before in
+    let a = b5 .before .before .before .before .args in
+    does-refuse (a .s) _ (a .out .now) (c .refuse2 .result) 9 1 0 (c .refuse2 .ensures)
+    (line-other (a .line .now) _ refl (b5 .read .result) _ (b5 .read .ensures) (b2 .if1 .left) (a .s) (a .arrival)
+    (c .before .match .rest))
 
 pub take-line-spec : {M : Type 1} → statement M
 take-line-spec =
     tie.close
     (tie.spec
-    (λ c κs. search needs)
     (λ c. search needs)
     (λ c κs. search needs)
-    (λ c. search needs)
     (λ c κs. search needs)
-    (λ c. search needs)
-    (λ c κs. search needs)
-    (λ c. search needs)
-    (λ c κs. search needs)
-    (λ c. search needs)
-    (λ c κs. search needs)
-    (λ c. search needs)
-    (λ c κs. search needs)
-    (λ c. search needs)
-    (λ c κs. search needs)
-    (λ c. search needs)
-    (λ c κs. search needs)
-    (λ c. search needs)
-    (λ c κs. search needs)
-    (λ c. search needs)
-    (λ c κs. search needs)
-    (λ c. search needs)
-    (λ c κs. search needs)
-    (λ c. search needs)
-    (λ c κs. search needs)
-    (λ c. search needs)
-    (λ c κs. search needs)
-    (λ c. search needs)
-    (λ c κs. search needs)
-    (λ c. search needs)
-    (λ c κs. search needs)
-    (λ c. search needs)
-    (λ c κs. search needs)
-    (λ c. search needs)
     returns
+    (λ c. search needs)
+    (λ c κs. search needs)
+    (λ c κs. search needs)
+    (λ c. search needs)
+    (λ c κs. search needs)
+    (λ c κs. search needs)
+    (λ c. search needs)
+    (λ c κs. search needs)
+    (λ c κs. search needs)
+    (λ c κs. search needs)
+    (λ c κs. search needs)
     (λ c. search needs)
     returns-2
     (λ c. search needs)
     returns-3
     (λ c. search needs)
     returns-4
+    (λ c. search needs)
     returns-5
-    returns-6
-    returns-7
-    returns-8
-    returns-9
-    returns-10
-    returns-11
-    returns-12
-    returns-13
-    returns-14
-    returns-15
-    returns-16)
+    returns-6)

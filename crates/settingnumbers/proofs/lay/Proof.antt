@@ -4,8 +4,8 @@ use denote.Ref.{now}
 use mir.Syntax.{w32}
 use mir.Val.{Fits, SFits}
 use borrow.Author.Needs.{needs}
-use Rattle.slots.proofs.Fitting.{cast-back, cast-fits, wide, wide-fits}
-use Rattle.slots.proofs.Rows.{_⋮_, laid-by}
+use Rattle.numbers.proofs.Fitting.{cast-back, cast-fits, wide, wide-fits}
+use Rattle.numbers.proofs.Rows.{_⋮_, laid-by}
 use Rattle.settingnumbers.specs.Numbers.{settingsLayout}
 use Rattle.settingnumbers.proofs.lay.Statement.{statement}
 use Rattle.settingnumbers.proofs.lay.Tie as tie

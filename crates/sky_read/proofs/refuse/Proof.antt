@@ -4,7 +4,7 @@ use Rattle.sky_read.proofs.refuse.Statement.{statement}
 use Rattle.sky_read.proofs.refuse.Tie as tie
 use mathlib.Core.Path.{ap}
 use lib.ListN.{replicate}
-use Rattle.records.specs.declared.Entry.{Entry}
+use Rattle.kind_gsv.specs.declared.Entry.{Entry}
 use Rattle.sky.specs.declared.Whose.the-variants.{Nobody}
 
 returns : tie.Need-returns

@@ -1,105 +1,110 @@
 -- Each way out of `step` is a case of the rule: the line's own refusal, another kind, a fault as a line of its group, or one more line.
-use mathlib.Core.Path.{_∙_, ap, refl, subst, sym}
+use mathlib.Core.Path.{_∙_, _≡_, ap, ap₂, refl, sym}
+use mathlib.Core.List.{List}
+use Prim.Native.Nat.{ℕ}
+use lib.IntN.{ℤ, pos}
+use lib.ListN.{replicate}
 use borrow.Author.Needs.{needs}
-use Rattle.records.specs.declared.Reading.{Reading}
-use Rattle.sky_read.specs.Steps.{seenOf, Sound}
+use Rattle.numbers.specs.Numbers.{talkerOf}
+use Rattle.sentence.specs.Lines.{readLine}
+use Rattle.sentence.specs.Sentence as S
+use Rattle.sky_read.specs.Steps.{seenOf}
 use Rattle.sky_read.proofs.SoundLaws.{sound}
-use Rattle.sky_read.proofs.StepLaws.{rule-fault, rule-other, rule-refused, steps-stop, steps-taken}
+use Rattle.sky_read.proofs.StepLaws.{line-gsv, line-other, line-refused, rule-fault, rule-other, rule-refused, steps-stop}
+use Rattle.sky_read.proofs.StepLaws.{steps-taken}
 use Rattle.sky_read.proofs.step.Statement.{statement}
 use Rattle.sky_read.proofs.step.Tie as tie
 
+-- The numbers that are lent to the line's reader.
+abbrev zeros : List ℤ
+zeros = replicate 33 (pos 0)
+
 returns : tie.Need-returns
 returns c =
-    let b2 = c .before .before in
-    let b5 = b2 .before .before .before in
-    let b8 = b5 .before .before .before in
-    let args = b8 .args in
+    let r = c .before .before .before .before in
+    let args = r .before .before .before .before .args in
     steps-stop (args .head) (args .k) (args .line .now) (args .seen .now) (args .seen .now) refl (c .stop .result) _ _ (c .stop .ensures)
     (λ es i. rule-refused (seenOf (args .head) es) (args .k) (args .line .now) _ _
-    (sym (ap (λ (r : Reading). r .sentence) (b5 .read-line .ensures)) ∙ b2 .sentence .given .1))
+    (line-refused (args .line .now) zeros refl (r .read .result) (r .read .ensures .0) (c .before .if1 .taken)))
 
 returns-2 : tie.Need-returns-2
 returns-2 c =
-    let b2 = c .before .before in
-    let b4 = b2 .before .before in
-    let b7 = b4 .before .before .before in
-    let args = b7 .args in
-    let read-line = b4 .read-line in
+    let b3 = c .before .before .before in
+    let r = b3 .before .before .before in
+    let args = r .before .before .before .before .args in
+    let other =
+    line-other (args .line .now) zeros refl (r .read .result) (r .read .ensures .0) (b3 .if1 .left) (c .before .if2 .taken) in
     steps-stop (args .head) (args .k) (args .line .now) (args .seen .now) (args .seen .now) refl (c .stop2 .result) 6 0
-    (c .stop2 .ensures) (λ es i. rule-other (seenOf (args .head) es) (args .k) (args .line .now) (read-line .result)
-    (read-line .ensures) (b2 .match .keys2) (c .before .match2 .keys2))
+    (c .stop2 .ensures) (λ es i. rule-other (seenOf (args .head) es) (args .k) (args .line .now) (other .0) (other .1))
+
+-- Where a record was taken from the numbers of the line.
+abbrev start : tie.After-at → tie.Start
+start c = c .before .before .before .before .before .before .before .before .before .before .before .before .before .before
+
+abbrev lineAt : tie.After-at → List ℕ
+lineAt c = start c .args .line .now
+
+-- The record and its talker are what the line was read to.
+gsv-is : (c : tie.After-at) → readLine (lineAt c) ≡ S.Gsv (c .before .before .talker-of .result) (c .at .result)
+gsv-is c =
+    let talker = c .before .before in
+    let else2 = talker .before .before .before in
+    let else1 = else2 .before .before in
+    let r = else1 .before .before .before in
+    line-gsv (lineAt c) zeros refl (r .read .result) (r .read .ensures .0) _ (r .read .ensures .1) (else1 .if1 .left) (else2 .if2 .left)
+    ∙ ap₂ S.Gsv (sym (talker .talker-of .ensures ∙ ap talkerOf (talker .before .whole-at .ensures))) (sym (c .at .ensures))
 
 follows-requires : tie.Need-follows-requires
-follows-requires c κs =
-    let b5 = c .before .before .before .before .before in
-    let b8 = b5 .before .before .before in
-    let args = b8 .args in
-    let read-line = b5 .read-line in
-    subst (λ (r : Reading). Sound (r .gsv)) (sym (read-line .ensures))
-    (sound (args .line .now) _ (sym (ap (λ (r : Reading). r .sentence) (read-line .ensures)) ∙ c .before .sentence2 .given .1))
+follows-requires c κs = sound (lineAt c) _ (c .at .result) (gsv-is c)
 
 in-line-requires : tie.Need-in-line-requires
 in-line-requires c κs =
-    let b3 = c .before .before .before in
-    let b7 = b3 .before .before .before .before in
-    let b10 = b7 .before .before .before in
-    let args = b10 .args in
-    let pre = b10 .pre in
-    let read-line = b7 .read-line in (
-      subst (λ (r : Reading). Sound (r .gsv)) (sym (read-line .ensures))
-          (sound (args .line .now) _ (sym (ap (λ (r : Reading). r .sentence) (read-line .ensures)) ∙ b3 .sentence2 .given .1)),
-      pre,
-    )
+    let b2 = c .before .before in
+    (sound (lineAt b2) _ (b2 .at .result) (gsv-is b2), start b2 .pre)
 
 returns-3 : tie.Need-returns-3
 returns-3 c =
     let b2 = c .before .before in
     let b5 = b2 .before .before .before in
     let b7 = b5 .before .before in
-    let b9 = b7 .before .before in
-    let b13 = b9 .before .before .before .before in
-    let b16 = b13 .before .before .before in
-    let args = b16 .args in
-    let read-line = b13 .read-line in
-    let sentence2 = b9 .sentence2 in
+    let b8 = b7 .before in
+    let args = start b8 .args in
     let follows = b7 .follows in
     let in-line = b5 .in-line in
     let fault-of = b2 .fault-of in
     steps-stop (args .head) (args .k) (args .line .now) (args .seen .now) (in-line .last .0) (in-line .ensures .kept) (c .stop3 .result)
     (fault-of .result) 0 (c .stop3 .ensures)
     (rule-fault (args .head) (args .k) (args .line .now) (args .seen .now) (in-line .last .0) (in-line .ensures .kept) _
-    (read-line .result .gsv) (ap (λ (r : Reading). r .gsv) (read-line .ensures))
-    (sym (ap (λ (r : Reading). r .sentence) (read-line .ensures)) ∙ sentence2 .given .1) (follows .result) (in-line .result)
-    (follows .ensures) (in-line .ensures) (fault-of .result) (fault-of .ensures) (c .before .if1 .taken))
+    (b8 .at .result) (gsv-is b8) (follows .result) (in-line .result)
+    (follows .ensures) (in-line .ensures) (fault-of .result) (fault-of .ensures) (c .before .if3 .taken))
 
 returns-4 : tie.Need-returns-4
 returns-4 c =
     let b4 = c .before .before .before .before in
     let b6 = b4 .before .before in
-    let b8 = b6 .before .before in
-    let b12 = b8 .before .before .before .before in
-    let b15 = b12 .before .before .before in
-    let args = b15 .args in
-    let read-line = b12 .read-line in
-    let sentence2 = b8 .sentence2 in
+    let b7 = b6 .before in
+    let args = start b7 .args in
     let follows = b6 .follows in
     let in-line = b4 .in-line in
     steps-taken (args .head) (args .k) (args .line .now) (args .seen .now) (in-line .last .0) (in-line .ensures .kept) _
-    (read-line .result .gsv) (ap (λ (r : Reading). r .gsv) (read-line .ensures))
-    (sym (ap (λ (r : Reading). r .sentence) (read-line .ensures)) ∙ sentence2 .given .1) (follows .result) (in-line .result)
-    (follows .ensures) (in-line .ensures) (sym (c .before .fault-of .ensures) ∙ c .if1 .left)
+    (b7 .at .result) (gsv-is b7) (follows .result) (in-line .result)
+    (follows .ensures) (in-line .ensures) (sym (c .before .fault-of .ensures) ∙ c .if3 .left)
 
 pub step-spec : {M : Type 1} → statement M
 step-spec =
     tie.close
     (tie.spec
-    (λ c κs. search needs)
     (λ c. search needs)
+    (λ c κs. search needs)
     (λ c κs. search needs)
     returns
-    (λ c. search needs)
     (λ c κs. search needs)
     returns-2
+    (λ c. search needs)
+    (λ c κs. search needs)
+    (λ c κs. search needs)
+    (λ c. search needs)
+    (λ c κs. search needs)
     follows-requires
     in-line-requires
     (λ c κs. search needs)

@@ -3,7 +3,7 @@ use borrow.Author.Needs.{needs}
 use Rattle.sky_read.proofs.stop.Statement.{statement}
 use Rattle.sky_read.proofs.stop.Tie as tie
 use mathlib.Core.Path.{ap}
-use Rattle.records.specs.declared.Gsv.{Gsv}
+use Rattle.kind_gsv.specs.declared.Gsv.{Gsv}
 use Rattle.sky_read.specs.declared.Next.the-variants.{Stop}
 
 returns : tie.Need-returns

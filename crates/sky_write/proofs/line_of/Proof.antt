@@ -8,7 +8,7 @@ use Rattle.sky.specs.Table.{lineAt}
 use Rattle.sky_write.proofs.Counts.{four-at, length-mapped}
 use Rattle.sky_write.proofs.line_of.Statement.{statement}
 use Rattle.sky_write.proofs.line_of.Tie as tie
-use Rattle.records.specs.Blank.{blankEntry}
+use Rattle.kind_gsv.specs.Blank.{blankEntry}
 
 returns : tie.Need-returns
 unfolding lineAt

@@ -9,9 +9,9 @@ use lib.IntN.{ℤ}
 use lib.ListN.{length}
 use mir.Syntax.{w64}
 use mir.ValLaws.{toZ-pos}
-use Rattle.slots.specs.Slots.{laid}
-use Rattle.slots.proofs.Laying.{length-mapped, laid-not, laid-two}
-use Rattle.slots.proofs.Rows.{_⋮_, talker-is}
+use Rattle.numbers.specs.Numbers.{laid}
+use Rattle.numbers.proofs.Laying.{length-mapped, laid-not, laid-two}
+use Rattle.numbers.proofs.Rows.{_⋮_, talker-is}
 use Rattle.skynumbers.specs.Numbers.{skyNumbers}
 use Rattle.skynumbers.proofs.Laying.{skyFirst, places, sky-parts, places-long, sky-long}
 use Rattle.skynumbers.proofs.lay.Statement.{statement}

@@ -1,14 +1,15 @@
--- The values before place i are stored; the laws stand in slots.
+-- The values before place i are stored; the laws stand in numbers.
 use Prim.Native.Nat.{_-_}
-use mathlib.Core.Path.{_≡_, sym, ap, _∙_}
+use mathlib.Core.Path.{_≡_, sym}
 use mathlib.Core.List.{[]}
 use native.Mathlib.Omega.{arith}
 use borrow.Author.Needs.{needs}
 use lib.ListN.{length}
-use Rattle.records.specs.Blank.{blankEntry}
-use Rattle.slots.specs.Layout.{listNumbers, entryLayout}
-use Rattle.slots.proofs.Values.{lawful-entry}
-use Rattle.slots.proofs.Laying.{length-mapped, laid-not, many, Stored, stored-none, stored-long, stored-at, stored-next, stored-all}
+use Rattle.kind_gsv.specs.Blank.{blankEntry}
+use Rattle.numbers.specs.Layout.{listNumbers}
+use Rattle.kind_gsv.specs.Row.{entryLayout}
+use Rattle.kind_gsv.proofs.Numbers.{lawful-entry}
+use Rattle.numbers.proofs.Laying.{length-mapped, laid-not, many, Stored, stored-none, stored-long, stored-at, stored-next, stored-all}
 use Rattle.skynumbers.proofs.lay_entries.Statement.{statement}
 use Rattle.skynumbers.proofs.lay_entries.Tie as tie
 

@@ -20,7 +20,7 @@ loop-holds c = taken-none (c .before .args .numbers .now) _ refl
 loop-again : tie.Need-loop-again Inv-loop μ-loop
 loop-again c =
     let l = c .before .before in
-    taken-next (l .before .before .args .numbers .now) (l .loop .inv) (c .before .loop-test .taken) (c .entry2 .ensures)
+    taken-next (l .before .before .args .numbers .now) (l .loop .inv) (c .before .loop-test .taken) (c .entry-at .ensures)
 
 returns : tie.Need-returns Inv-loop μ-loop
 unfolding tableLayout

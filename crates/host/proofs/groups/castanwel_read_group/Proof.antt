@@ -2,7 +2,7 @@
 use mathlib.Core.Path.{_≡_, sym, _∙_}
 use lib.ListN.{length}
 use Rattle.sky.specs.Group.{groupOf}
-use Rattle.slots.proofs.Laying.{length-mapped}
+use Rattle.numbers.proofs.Laying.{length-mapped}
 use Rattle.host.proofs.Rooms.{room, no-room}
 use Rattle.host.proofs.Skies.{few, nobody, somebody}
 use borrow.Author.Needs.{needs}

@@ -1,23 +1,30 @@
 -- `pirea_from` meets its contract: the first wrong field is found from the last on, as the definition says; without one the record is made.
+use mathlib.Core.Path.{refl}
 use borrow.Author.Needs.{needs}
-use borrow.Author.Tests.{eq-eqb, ne-eqb}
-use Rattle.form.specs.Kind.{answerBy}
+use Rattle.form.proofs.Told.{tells-right, tells-wrong}
 use Rattle.kind_pir_code.specs.Reply.{pireaRow}
 use Rattle.kind_pir_code.proofs.reply.pirea_from.Statement.{statement}
 use Rattle.kind_pir_code.proofs.reply.pirea_from.Tie as tie
 
 returns : tie.Need-returns
-unfolding answerBy pireaRow
-returns c = rw (← c .before .near .ensures, ne-eqb _ _ (c .if1 .taken))
+unfolding pireaRow
+returns c =
+    let d = c .before in
+    tells-wrong _ _ _ _ (d .before .near .result) (c .refuse .ensures) (rw (← d .before .near .ensures)) (d .if1 .taken)
 
 returns-2 : tie.Need-returns-2
-unfolding answerBy pireaRow
-returns-2 c = rw (← c .before .near .ensures, eq-eqb _ _ (c .if1 .left))
+unfolding pireaRow
+returns-2 c =
+    let d = c .before .before .before in
+    tells-right _ _ _ _ _ (c .before .lay .ensures) (rw (← d .before .near .ensures) (d .if1 .left)) refl
 
 pub pirea-from-spec : {M : Type 1} → statement M
 pirea-from-spec =
     tie.close
     (tie.spec
     (λ c κs. search needs)
+    (λ c κs. search needs)
     returns
+    (λ c κs. search needs)
+    (λ c. search needs)
     returns-2)

@@ -1,33 +1,27 @@
 -- `pirtr_from` meets its contract: the first wrong field is found from the last on, as the definition says; without one the record is made.
 use borrow.Author.Needs.{needs}
-use borrow.Author.Tests.{eq-eqb, ne-eqb}
-use Rattle.form.specs.Kind.{answerBy}
+use Rattle.form.proofs.Told.{tells-right, tells-wrong}
 use Rattle.kind_pir_datum.specs.Command.{pirtrRow}
 use Rattle.kind_pir_datum.proofs.command.pirtr_from.Statement.{statement}
 use Rattle.kind_pir_datum.proofs.command.pirtr_from.Tie as tie
 
 returns : tie.Need-returns
-unfolding answerBy pirtrRow
+unfolding pirtrRow
 returns c =
-    let b2 = c .before .before in
+    let d = c .before in
+    let b2 = d .before .before in
     let b3 = b2 .before in
-    rw (← b3 .needed-int .ensures, ← b2 .near .ensures, ← c .before .near2 .ensures, ne-eqb _ _ (c .if1 .taken))
+    tells-wrong _ _ _ _ (d .before .near2 .result) (c .refuse .ensures) (rw (← b3 .needed-int .ensures, ← b2 .near .ensures, ← d .before .near2 .ensures)) (d .if1 .taken)
 
 returns-2 : tie.Need-returns-2
-unfolding answerBy pirtrRow
+unfolding pirtrRow
 returns-2 c =
-    let b2 = c .before .before in
+    let d = c .before .before in
+    let b2 = d .before .before .before in
     let b3 = b2 .before in
     let b4 = b3 .before in
     let b5 = b4 .before in
-    rw (
-      ← b5 .needed-int .ensures,
-      ← b4 .near .ensures,
-      ← b3 .near2 .ensures,
-      eq-eqb _ _ (b2 .if1 .left),
-      c .before .kept .ensures,
-      c .zoned-if .ensures,
-    )
+    tells-right _ _ _ _ _ (c .before .lay .ensures) (rw (← b5 .needed-int .ensures, ← b4 .near .ensures, ← b3 .near2 .ensures) (b2 .if1 .left)) (rw (d .before .kept .ensures, d .zoned-if .ensures))
 
 pub pirtr-from-spec : {M : Type 1} → statement M
 pirtr-from-spec =
@@ -36,7 +30,10 @@ pirtr-from-spec =
     (λ c κs. search needs)
     (λ c κs. search needs)
     (λ c κs. search needs)
+    (λ c κs. search needs)
     returns
     (λ c κs. search needs)
     (λ c κs. search needs)
+    (λ c κs. search needs)
+    (λ c. search needs)
     returns-2)

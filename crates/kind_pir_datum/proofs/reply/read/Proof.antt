@@ -1,29 +1,30 @@
 -- `read` meets its contract: the count decides, then each field's form.
-use mathlib.Core.Path.{_∙_}
 use borrow.Author.Needs.{needs}
-use borrow.Author.Tests.{eq-eqb, ne-eqb}
-use Rattle.form.specs.Kind.{readBy}
+use Rattle.form.proofs.Told.{tells-count, tells-fields}
 use Rattle.kind_pir_datum.specs.Reply.{pirtaRow}
 use Rattle.kind_pir_datum.proofs.reply.read.Statement.{statement}
 use Rattle.kind_pir_datum.proofs.reply.read.Tie as tie
 
 returns : tie.Need-returns
-unfolding readBy pirtaRow
-returns c = rw (ne-eqb _ _ (c .if1 .taken))
+unfolding pirtaRow
+returns c = tells-count _ _ _ _ _ (c .refuse .ensures) (c .before .if1 .taken)
 
 returns-2 : tie.Need-returns-2
-unfolding readBy pirtaRow
+unfolding pirtaRow
 returns-2 c =
-    let b2 = c .before .before in
+    let d = c .before .before in
+    let b2 = d .before .before in
     let b3 = b2 .before in
-    c .pirta-from .ensures ∙ rw (eq-eqb _ _ (b3 .if1 .left), c .before .four-in .ensures, b2 .exact-in .ensures)
+    tells-fields _ _ _ _ _ _ (c .before .pirta-from .ensures) (b3 .if1 .left) (rw (d .before .four-in .ensures, b2 .exact-in .ensures))
 
 pub read-spec : {M : Type 1} → statement M
 read-spec =
     tie.close
     (tie.spec
+    (λ c κs. search needs)
     returns
     (λ c κs. search needs)
     (λ c κs. search needs)
     (λ c κs. search needs)
+    (λ c. search needs)
     returns-2)

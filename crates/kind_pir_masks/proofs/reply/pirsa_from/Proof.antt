@@ -1,24 +1,26 @@
 -- `pirsa_from` meets its contract: the first wrong field is found from the last on, as the definition says; without one the record is made.
+use mathlib.Core.Path.{refl}
 use borrow.Author.Needs.{needs}
-use borrow.Author.Tests.{eq-eqb, ne-eqb}
-use Rattle.form.specs.Kind.{answerBy}
+use Rattle.form.proofs.Told.{tells-right, tells-wrong}
 use Rattle.kind_pir_masks.specs.Reply.{pirsaRow}
 use Rattle.kind_pir_masks.proofs.reply.pirsa_from.Statement.{statement}
 use Rattle.kind_pir_masks.proofs.reply.pirsa_from.Tie as tie
 
 returns : tie.Need-returns
-unfolding answerBy pirsaRow
+unfolding pirsaRow
 returns c =
-    let b2 = c .before .before in
+    let d = c .before in
+    let b2 = d .before .before in
     let b3 = b2 .before in
-    rw (← b3 .near .ensures, ← b2 .near2 .ensures, ← c .before .near3 .ensures, ne-eqb _ _ (c .if1 .taken))
+    tells-wrong _ _ _ _ (d .before .near3 .result) (c .refuse .ensures) (rw (← b3 .near .ensures, ← b2 .near2 .ensures, ← d .before .near3 .ensures)) (d .if1 .taken)
 
 returns-2 : tie.Need-returns-2
-unfolding answerBy pirsaRow
+unfolding pirsaRow
 returns-2 c =
-    let b2 = c .before .before in
+    let d = c .before .before .before in
+    let b2 = d .before .before in
     let b3 = b2 .before in
-    rw (← b3 .near .ensures, ← b2 .near2 .ensures, ← c .before .near3 .ensures, eq-eqb _ _ (c .if1 .left))
+    tells-right _ _ _ _ _ (c .before .lay .ensures) (rw (← b3 .near .ensures, ← b2 .near2 .ensures, ← d .before .near3 .ensures) (d .if1 .left)) refl
 
 pub pirsa-from-spec : {M : Type 1} → statement M
 pirsa-from-spec =
@@ -27,5 +29,8 @@ pirsa-from-spec =
     (λ c κs. search needs)
     (λ c κs. search needs)
     (λ c κs. search needs)
+    (λ c κs. search needs)
     returns
+    (λ c κs. search needs)
+    (λ c. search needs)
     returns-2)

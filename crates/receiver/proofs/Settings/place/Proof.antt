@@ -3,7 +3,7 @@ use borrow.Author.Needs.{needs}
 use Rattle.receiver.proofs.Settings.place.Statement.{statement}
 use Rattle.receiver.proofs.Settings.place.Tie as tie
 use mathlib.Core.Path.{_∙_, ap, subst}
-use Rattle.records.specs.declared.DatumTold.{DatumTold}
+use Rattle.kind_pir_datum.specs.declared.reply.DatumTold.{DatumTold}
 use Rattle.frame.specs.Written.{faultAt, Writes}
 use Rattle.kind_pir_datum.specs.Reply.{pirtaBody, pirtaWrong}
 use Rattle.receiver.specs.Command.{afterDatum, datumTold, handedOver}

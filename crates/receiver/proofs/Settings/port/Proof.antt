@@ -4,7 +4,7 @@ use Rattle.receiver.proofs.Settings.port.Statement.{statement}
 use Rattle.receiver.proofs.Settings.port.Tie as tie
 use Prim.Native.Nat.{ℕ}
 use mathlib.Core.Path.{_∙_, ap, subst}
-use Rattle.records.specs.declared.PortTold.{PortTold}
+use Rattle.kind_pir_port.specs.declared.reply.PortTold.{PortTold}
 use Rattle.frame.specs.Written.{faultAt, Writes}
 use Rattle.kind_pir_port.specs.Reply.{pirpaBody, pirpaWrong}
 use Rattle.receiver.specs.declared.Settings.{Settings}

@@ -5,7 +5,7 @@ use native.Mathlib.Omega.{arith}
 use borrow.Author.Needs.{needs}
 use borrow.Author.Tests.{not-false, not-true}
 use lib.ListN.{drop, length}
-use Rattle.records.specs.Blank.{blankEntry}
+use Rattle.kind_gsv.specs.Blank.{blankEntry}
 use Rattle.sky.specs.Table.{allBlank}
 use Rattle.sky_write.proofs.Counts.{length-mapped}
 use Rattle.sky_write.proofs.FaultLaws.{blank-end, blank-next, blank-stop}

@@ -5,7 +5,7 @@ use mathlib.Core.List.{[]}
 use native.Mathlib.Omega.{arith}
 use borrow.Author.Needs.{needs}
 use lib.ListN.{drop, length, take}
-use Rattle.records.specs.Blank.{blankEntry}
+use Rattle.kind_gsv.specs.Blank.{blankEntry}
 use Rattle.frame.proofs.Sealing.{fault-none}
 use Rattle.sky.specs.Marks.{Marks}
 use Rattle.sky.specs.Table.{faultFrom}

@@ -4,7 +4,7 @@ use mathlib.Core.Path.{_≡_}
 use native.Mathlib.Omega.{arith}
 use borrow.Author.Needs.{needs}
 use lib.ListN.{drop, getD, length, take}
-use Rattle.records.specs.Blank.{blankEntry}
+use Rattle.kind_gsv.specs.Blank.{blankEntry}
 use Rattle.sky_write.specs.Size.{sizes, tableSize}
 use Rattle.sky_write.proofs.Counts.{length-mapped, lines-are}
 use Rattle.sky_write.proofs.SizeLaws.{entry-few, sizes-end, sizes-next}

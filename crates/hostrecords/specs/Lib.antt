@@ -1,2 +1,0 @@
-pub mod ToHost
-pub mod FromHost
