@@ -58,7 +58,7 @@ use Rattle.sentence.specs.ToHost.{laidFor, toldFor}
 use Rattle.sentence.specs.FromHost.{writtenAs}
 use Rattle.numbers.specs.Numbers.{isThere, isWhole}
 use Rattle.numbers.specs.Layout.{numberAt}
-use Rattle.tripsnumbers.proofs.Host as Host
+use Rattle.sentence_laws.proofs.HostBack as Host
 use Rattle.claims.proofs.WrongNumbers as Wrong
 use Rattle.claims.proofs.Commands as Commands
 use Rattle.claims.proofs.Replies as Replies

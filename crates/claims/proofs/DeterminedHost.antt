@@ -2,7 +2,7 @@
 -- each number that is set and in each lent slice.
 use Prim.Native.Nat.{ℕ}
 use mathlib.Core.List.{[], List}
-use mathlib.Core.Bool.{Bool, false}
+use mathlib.Core.Bool.{false}
 use lib.Dec.{leb}
 use lib.ListN.{length, getD}
 use lib.IntN.{ℤ, pos}
@@ -36,9 +36,9 @@ use Rattle.kind_pir_masks.specs.Reply.{pirsaAt}
 use Rattle.kind_pir_code.specs.Reply.{pireaAt}
 use Rattle.sentence.specs.Back.{addressAt, makerAt, standardAt}
 use Rattle.sky.specs.declared.Table.{Table}
-use Rattle.skynumbers.specs.Numbers.{skyNumbers, tableAt}
+use Rattle.sky_numbers.specs.Numbers.{skyNumbers, tableAt}
 use Rattle.receiver.specs.declared.Settings.{Settings}
-use Rattle.settingnumbers.specs.Numbers.{settingNumbers, settingsAt, said}
+use Rattle.receiver_numbers.specs.Numbers.{settingNumbers, settingsAt, said}
 use Rattle.receiver.specs.Settings.{atStart}
 use Rattle.sentence.specs.Lines.{readLine}
 use Rattle.sentence.specs.ToHost.{toldFor, laidFor}
@@ -170,7 +170,7 @@ count-of kind = one
 pub address-at : (kind : ℕ) (talker : ℕ) → One (addressAt kind talker)
 address-at kind talker = one
 
--- skynumbers, settingnumbers
+-- sky_numbers, receiver_numbers
 pub lay-sky : (t : Talker) (r : Table) (out : List ℤ) → One (leb 254 (length out)) × One (laid (skyNumbers t r) out)
 lay-sky t r out = (one, one)
 

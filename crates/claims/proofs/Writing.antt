@@ -21,7 +21,6 @@ use Rattle.kind_gsa.specs.Row.{gsaBody, gsaWrong}
 use Rattle.kind_gsv.specs.Writing.{gsvBody, gsvFault}
 use Rattle.sentence_laws.proofs.Gsa as TGsa
 use Rattle.sentence_laws.proofs.Gsv as TGsv
-use Rattle.kind_gsv.proofs.Laws as KGsv
 use Rattle.claims.proofs.Rewriting as Rewriting
 use Rattle.kind_gga.specs.declared.Gga.{Gga}
 use Rattle.kind_gga.specs.Row.{ggaBody, ggaWrong}

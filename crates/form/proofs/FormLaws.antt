@@ -12,7 +12,8 @@ use Rattle.form.proofs.Clean.{Clean}
 use Rattle.form.proofs.Laws.{LawfulForm, ofOne, ShortForm}
 use Rattle.form.proofs.Values.{empty-back}
 
-module _ {G X : Type 0} {most : ℕ} {layout : Layout X} (read : List ℕ → G) {wrong : G → ℕ} {value : G → X} {fault : X → ℕ} {text : X → List ℕ} where
+module _ {G X : Type 0} {most : ℕ} {layout : Layout X} (read : List ℕ → G) {wrong : G → ℕ} {value : G → X} {fault : X → ℕ}
+    {text : X → List ℕ} where
   -- The text of a value in range reads as `good` says, which has no wrong field and that value.
   pub lawful-single : {good : X → G} → ((v : X) → fault v ≡ 0 → read (text v) ≡ good v) → ((v : X) → fault v ≡ 0 → wrong (good v) ≡ 0)
       → ((v : X) → fault v ≡ 0 → value (good v) ≡ v) → ((s : List ℕ) → wrong (read s) ≡ 0 → fault (value (read s)) ≡ 0)

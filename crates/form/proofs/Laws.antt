@@ -335,7 +335,8 @@ module _ {G X : Type 0} (letter : ℕ) (found : G → Bool) (held : X → Bool) 
 infixr 30 _⊳_
 pub _⊳_ : {G X H Y : Type 0} {a : Row G X} {b : Row H Y} → Lawful a → Lawful b → Lawful (a ▷ b)
 _⊳_ {a = a} {b = b} p q =
-    lawful-depending {K = Unit {0}} (b .width) (b .most) (b .layout) (λ g. tt) (λ v. tt) a (λ k. b) (λ k. refl) (λ k. omega arith) (λ g. refl)
+    lawful-depending {K = Unit {0}} (b .width) (b .most) (b .layout) (λ g. tt) (λ v. tt) a (λ k. b) (λ k. refl) (λ k. omega arith)
+    (λ g. refl)
     p (λ k. q)
 
 infixr 30 _⊵_

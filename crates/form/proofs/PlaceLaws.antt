@@ -102,7 +102,8 @@ prefix-narrow f wide own few s c good =
       fresh = λ field. anew (λ k. s) (λ j i. c) good;
     }
 
-pub prefix-single : {G X : Type 0} {most : ℕ} {layout : Layout X} (read : List ℕ → G) {wrong : G → ℕ} {value : G → X} {fault : X → ℕ} {text : X → List ℕ}
+pub prefix-single : {G X : Type 0} {most : ℕ} {layout : Layout X} (read : List ℕ → G) {wrong : G → ℕ} {value : G → X}
+    {fault : X → ℕ} {text : X → List ℕ}
     → ((s : List ℕ) → wrong (read s) ≤ 1) → (s : List ℕ) → Clean s → wrong (read s) ≡ 0
     → PrefixForm (ofOne most layout read wrong value fault text)
 prefix-single {most = most} {layout = layout} read {wrong} {value} {fault} {text} few s c good =

@@ -53,7 +53,8 @@ unfolding cut
 cut-high p x y j h = rw (lt-leb j p h)
 
 -- One row, then another that depends on it.
-module _ {K G X H Y : Type 0} (w m : ℕ) (y : Layout Y) (found : G → K) (held : X → K) (a : Row G X) (b : K → Row H Y) (wide : (k : K) → b k .width ≡ w)
+module _ {K G X H Y : Type 0} (w m : ℕ) (y : Layout Y) (found : G → K) (held : X → K) (a : Row G X) (b : K → Row H Y)
+    (wide : (k : K) → b k .width ≡ w)
     {early late : (ℕ → List ℕ) → ℕ → Type 0} (p : PrefixBut a early) (q : (k : K) → PrefixBut (b k) late) where
   abbrev both : Row (G × H) (X × Y)
   both = depending w m y found held a b

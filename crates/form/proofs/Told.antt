@@ -1,10 +1,9 @@
 -- What a row's reader tells and leaves: the refusal of the first wrong field, or what is made of the values; before both, of a wrong count.
 use Prim.Native.Nat.{ℕ}
-use mathlib.Core.Path.{_∙_, _≡_, ap, refl, subst, sym}
+use mathlib.Core.Path.{_∙_, _≡_, ap, sym}
 use mathlib.Core.Bool.{Bool}
 use mathlib.Core.List.{List}
 use borrow.Author.Tests.{eq-eqb, ne-eqb}
-use lib.Dec.{eqb}
 use lib.IntN.{ℤ}
 use Rattle.digits.specs.Pick.{pick}
 use Rattle.numbers.specs.Told.{Answer, refuses, Tells, told}

@@ -21,7 +21,8 @@ use Rattle.form_number.specs.Numbers.{kmhLayout, knotsLayout, numberLayo
 
 -- w digits from lo to hi, that may be empty, and that may not.
 abbrev pub fixed : ℕ → ℕ → ℕ → Form Got Maybe
-fixed w lo hi = single (w + 1) maybeLayout (fixedForm w lo hi) (λ g. keptOf g) (λ m. rangeWrong lo hi (m .there) (m .value)) (maybeText (printFixed w))
+fixed w lo hi =
+    single (w + 1) maybeLayout (fixedForm w lo hi) (λ g. keptOf g) (λ m. rangeWrong lo hi (m .there) (m .value)) (maybeText (printFixed w))
 
 abbrev pub exact : ℕ → ℕ → ℕ → Form Got ℕ
 exact w lo hi = single (w + 1) whole (exactForm w lo hi) (λ g. g .value) (λ v. outside lo hi v) (λ v. printFixed w v)
@@ -42,7 +43,9 @@ height = singleInt 12 signedLayout heightForm (λ g. signedOf g) (λ z. signedWr
 
 -- A course, below 360; may be empty.
 abbrev pub course : Form Got Number
-course = single 8 numberLayout (belowForm fullCircle) (λ g. numberOf g) (λ n. rangeWrong 0 (fullCircle - 1) (n .there) (n .value)) (λ n. numberField n)
+course =
+    single 8 numberLayout (belowForm fullCircle) (λ g. numberOf g) (λ n. rangeWrong 0 (fullCircle - 1) (n .there) (n .value))
+    (λ n. numberField n)
 
 -- The same with the letters of their units.
 abbrev pub metres : Row (GotInt × ℕ) Signed

@@ -19,9 +19,9 @@ use Rattle.numbers.specs.Layout.{standardNumbers, whole}
 use Rattle.numbers.proofs.Fitting.{whole-back}
 use Rattle.numbers.proofs.Laying.{laid-is}
 use Rattle.numbers.proofs.Values.{talker-held}
-use Rattle.skynumbers.specs.Numbers.{skyNumbers, tableAt, tableLayout}
-use Rattle.skynumbers.proofs.Laying.{sky-long}
-use Rattle.skynumbers.proofs.Back.{laid-back}
+use Rattle.sky_numbers.specs.Numbers.{skyNumbers, tableAt, tableLayout}
+use Rattle.sky_numbers.proofs.Laying.{sky-long}
+use Rattle.sky_numbers.proofs.Back.{laid-back}
 use Rattle.host.specs.Group.{groupPut, Put, tablePut}
 
 module _ (n : List ℤ) (out : List ℕ) where

@@ -17,7 +17,7 @@ use Rattle.sky.specs.declared.Whose.the-variants.{Nobody, Of}
 use Rattle.sky.specs.Group.{Answer, whole, refused}
 use Rattle.sky.specs.Sky.{skyOf}
 use Rattle.numbers.specs.Numbers.{laid}
-use Rattle.skynumbers.specs.Numbers.{skyNumbers}
+use Rattle.sky_numbers.specs.Numbers.{skyNumbers}
 use Rattle.host.specs.Group.{handed}
 
 pub few : (a : Answer) (s : Sky) → s ≡ skyOf a → length (s .table .entries) ≡ 36 → s .table .count ≤ 36

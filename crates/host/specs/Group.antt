@@ -15,7 +15,7 @@ use Rattle.sky.specs.Sky.{tableOf}
 use Rattle.sky.specs.Table.{leftGroup, writtenGroup}
 use Rattle.numbers.specs.Numbers.{laid, talkerOf}
 use Rattle.numbers.specs.Layout.{whole}
-use Rattle.skynumbers.specs.Numbers.{skyNumbers, tableAt}
+use Rattle.sky_numbers.specs.Numbers.{skyNumbers, tableAt}
 
 -- What reading a group hands over: number, line and field of the refusal, and the numbers.
 pub record Handed : Type 0 where

@@ -4,7 +4,7 @@ use receiver::Counts;
 ghost use mathlib.Core.Path.{_≡_};
 ghost use Rattle.receiver.specs.Settings.{atStart};
 ghost use Rattle.numbers.specs.Numbers.{laid};
-ghost use Rattle.settingnumbers.specs.Numbers.{settingNumbers};
+ghost use Rattle.receiver_numbers.specs.Numbers.{settingNumbers};
 ghost use Rattle.host.specs.Command.{countsAt, startNo, stepped};
 
 // Stores the settings at start as eleven numbers at the start of `settings`, and returns 0; or 8 where that is too
@@ -14,7 +14,7 @@ pub extern "C" fn castanwel_start(settings: &mut [i64]) -> u8
     ensures { λ r. ⌜ r ≡ startNo (now (settings .entry)) ⌝ }
     ensures { λ _. ⌜ now (settings .exit) ≡ laid (settingNumbers atStart) (now (settings .entry)) ⌝ }
 {
-    if settingnumbers::lay(settings, receiver::state::at_start()) {
+    if receiver_numbers::lay(settings, receiver::state::at_start()) {
         return 0;
     }
     8
@@ -27,14 +27,14 @@ fn step(settings: &mut [i64], arrival: u32, line: &[u8], out: &mut [u8]) -> Writ
     ensures { λ _. ⌜ now (settings .exit) ≡ stepped (now (settings .entry)) arrival (now (line .entry)) (now (out .entry)) .numbers ⌝ }
     ensures { λ _. ⌜ now (out .exit) ≡ stepped (now (settings .entry)) arrival (now (line .entry)) (now (out .entry)) .out ⌝ }
 {
-    if !settingnumbers::are_said(settings) {
+    if !receiver_numbers::are_said(settings) {
         return frame::refuse(5, 0, 0);
     }
-    let done = receiver::step(settingnumbers::at(settings), arrival, line, out);
+    let done = receiver::step(receiver_numbers::at(settings), arrival, line, out);
     let written = done.written;
     let after = done.settings;
     if written.no == 0 {
-        settingnumbers::lay(settings, after);
+        receiver_numbers::lay(settings, after);
     }
     written
 }
@@ -72,7 +72,7 @@ pub extern "C" fn castanwel_step(
 fn counts(settings: &[i64]) -> Counts
     ensures { λ c. ⌜ c ≡ countsAt (now (settings .entry)) ⌝ }
 {
-    if !settingnumbers::are_said(settings) {
+    if !receiver_numbers::are_said(settings) {
         return Counts {
             no: 5,
             line: 0,
@@ -81,7 +81,7 @@ fn counts(settings: &[i64]) -> Counts
             glonass: 0,
         };
     }
-    receiver::state::counts(settingnumbers::at(settings))
+    receiver::state::counts(receiver_numbers::at(settings))
 }
 
 // Sets `gps` and `glonass` to how many satellites of each the settings allow, and returns 0; or 5 where the settings

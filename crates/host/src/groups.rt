@@ -28,7 +28,7 @@ pub extern "C" fn castanwel_read_group(
     let Whose::Of(t) = whose else {
         return sky.no;
     };
-    if skynumbers::lay(numbers, t, table) {
+    if sky_numbers::lay(numbers, t, table) {
         return 0;
     }
     8
@@ -47,7 +47,7 @@ fn write_numbers(numbers: &[i64], out: &mut [u8]) -> Written
     if 4 < n {
         return frame::refuse(3, 0, 0);
     }
-    sky_write::write(out, numbers::talker_of(n), skynumbers::table_at(numbers))
+    sky_write::write(out, numbers::talker_of(n), sky_numbers::table_at(numbers))
 }
 
 // Writes the group that `numbers` say into `out`, and returns the number of its refusal, 0 where it was written.

@@ -68,7 +68,8 @@ ggaAt n = standard ggaLayout .at n 0 .1
 -- What the contracts cite.
 abbrev pub ggaFrom : List ℤ → Talker → Got → Position → Got → Got → Got → GotInt → ℕ → GotInt → ℕ → Got → Got → Answer
 ggaFrom out t time place quality satellites hdop altitude m10 geoid m12 age station =
-    answerBy (refuses out) ggaRow (λ r. gives out 1 (ggaNumbers t r)) (time, (place, (quality, (satellites, (hdop, ((altitude, m10), ((geoid, m12), (age, station))))))))
+    answerBy (refuses out) ggaRow (λ r. gives out 1 (ggaNumbers t r))
+    (time, (place, (quality, (satellites, (hdop, ((altitude, m10), ((geoid, m12), (age, station))))))))
 
 abbrev pub ggaTold : List ℤ → Talker → ℕ → (ℕ → List ℕ) → Answer
 ggaTold out t = readBy (refuses out) ggaRow (λ r. gives out 1 (ggaNumbers t r))

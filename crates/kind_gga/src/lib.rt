@@ -90,7 +90,8 @@ fn gga_from(
     age: Got,
     station: Got,
 ) -> Told
-    ensures { λ r. ⌜ Tells (ggaFrom (now (out .entry)) t time place quality satellites hdop altitude m10 geoid m12 age station) r (now (out .exit)) ⌝ }
+    ensures { λ r. ⌜ Tells (ggaFrom (now (out .entry)) t time place quality satellites hdop altitude m10 geoid m12 age station) r
+        (now (out .exit)) ⌝ }
 {
     let w14 = form::keep::near(13, station.wrong, 0);
     let w13 = form::keep::near(12, age.wrong, w14);

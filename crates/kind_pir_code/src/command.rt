@@ -2,7 +2,6 @@
 use form::got::Got;
 use frame::Written;
 use numbers::Told;
-ghost use mathlib.Core.Path.{_≡_};
 ghost use Rattle.put.specs.Wrote.{held, Puts};
 ghost use Rattle.fields.specs.Places.{fieldsBy};
 ghost use Rattle.frame.specs.Written.{faultAt, Writes};

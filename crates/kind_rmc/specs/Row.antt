@@ -63,7 +63,8 @@ rmcAt n = standard rmcLayout .at n 0 .1
 -- What the contracts cite.
 abbrev pub rmcFrom : List ℤ → Talker → Got → Got → Position → Got → Got → GotDate → GotInt → Got → Answer
 rmcFrom out t time status place speed course date variation mode =
-    answerBy (refuses out) rmcRow (λ r. gives out 5 (rmcNumbers t r)) (time, (status, (place, (speed, (course, (date, (variation, mode)))))))
+    answerBy (refuses out) rmcRow (λ r. gives out 5 (rmcNumbers t r))
+    (time, (status, (place, (speed, (course, (date, (variation, mode)))))))
 
 abbrev pub rmcTold : List ℤ → Talker → ℕ → (ℕ → List ℕ) → Answer
 rmcTold out t = readBy (refuses out) rmcRow (λ r. gives out 5 (rmcNumbers t r))

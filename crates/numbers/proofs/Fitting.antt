@@ -1,7 +1,7 @@
 -- A number of 64 bits is looked at by its sign: the tests of the code are those of the definitions, and what 32 bits hold of it is itself
 -- where they can.
-use Prim.Native.Nat.{_<_, _≤_, ℕ}
-use mathlib.Core.Path.{_∙_, _≡_, ap, refl, sym}
+use Prim.Native.Nat.{ℕ}
+use mathlib.Core.Path.{_≡_, refl, sym}
 use mathlib.Core.Bool.{_&&_, Bool, cond, false, true, true≢false}
 use native.Mathlib.Omega.{arith}
 use borrow.Author.Tests.{le-leb, le-ltb, leb-true, ltb-false, ltb-true, ne-eqb}
@@ -12,7 +12,6 @@ use mir.Syntax.{w32, w64}
 use mir.Val.{boolByte, Fits, ofZ, SFits, toZ}
 use mir.Facts.{toZ-ofZ}
 use mir.ValLaws.{toZ-pos}
-use Rattle.digits.specs.Pick.{pick}
 use Rattle.numbers.specs.Numbers.{high, isMark, isThere, isWhole, low, most, signedOf, wholeOf}
 
 -- The code's tests.

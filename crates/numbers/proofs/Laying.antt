@@ -8,13 +8,13 @@ use native.Mathlib.Nat.{mul-suc, mul-zero, mul-le-mul-left}
 use native.Mathlib.Numerals.{add-one}
 use borrow.Rule.Slice.PartMut.{midOf, putMid, post-is}
 use borrow.Author.Tests.{le-leb, lt-leb}
-use lib.IntN.{ℤ, pos}
+use lib.IntN.{ℤ}
 use lib.ListN.{length, getD, take, drop, length-append, length-drop, drop-of-length-le, length-map}
 use lib.Seq.{take-all, take-suc, length-take-le, drop-drop, take-at, drop-at}
 use Rattle.numbers.specs.Numbers.{laid}
 use Rattle.numbers.specs.Layout.{Layout, listNumbers, sizes}
 use Rattle.numbers.proofs.Layouts.{LawfulLayout}
-use Rattle.numbers.proofs.Arrays.{list-count, list-onto}
+use Rattle.numbers.proofs.Arrays.{list-count}
 use Rattle.numbers.proofs.Values.{numbers-many}
 
 pub laid-is : (v out : List ℤ) → length v ≤ length out → laid v out ≡ v ++ drop (length v) out

@@ -1,19 +1,19 @@
 -- The layouts of the values of records are lawful, and what this says of a record in a list of numbers.
-use Prim.Native.Nat.{ℕ, _+_, _<_}
+use Prim.Native.Nat.{_+_}
 use mathlib.Core.Path.{_≡_, refl, _∙_}
 use mathlib.Core.Bool.{true}
 use mathlib.Core.List.{List, [], _++_}
 use native.Mathlib.Omega.{arith}
 use native.Mathlib.Nat.{add-zero}
 use lib.IntN.{ℤ, pos}
-use lib.ListN.{length, getD, List·getD-append}
+use lib.ListN.{length, List·getD-append}
 use lib.Seq.{getD-append-add}
 use Rattle.address.specs.declared.Talker.{Talker}
 use Rattle.address.specs.declared.Talker.the-variants as T
 use Rattle.numbers.specs.Numbers.{talkerNumber, talkerOf}
-use Rattle.numbers.specs.Layout.{Layout, whole, signed, _then_, shaped, marked}
+use Rattle.numbers.specs.Layout.{Layout, whole}
 use Rattle.numbers.specs.Layout.{talkerLayout}
-use Rattle.numbers.proofs.Layouts.{Holds, LawfulLayout, lawful-whole, lawful-signed, _⊗_, lawful-shaped, lawful-marked}
+use Rattle.numbers.proofs.Layouts.{Holds, LawfulLayout, lawful-whole, lawful-shaped}
 
 talker-back : (t : Talker) → talkerOf (talkerNumber t) ≡ t
 talker-back T.Gp = refl

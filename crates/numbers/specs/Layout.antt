@@ -2,7 +2,7 @@
 -- it. One number a value, and a mark before a value that may be missing (docs/LAYOUT.md). A kind of record is one layout, put together of
 -- these.
 use Prim.Native.Nat.{_+_, suc, zero, ℕ}
-use mathlib.Core.Bool.{_&&_, Bool, false, true}
+use mathlib.Core.Bool.{_&&_, Bool, true}
 use mathlib.Core.List.{[], _∷_, List}
 use lib.Dec.{eqb, leb, ltb}
 use lib.IntN.{pos, ℤ}

@@ -1,7 +1,7 @@
 -- The parts of a row, by the tests that lead to them; and numbers put one after another.
 use Prim.Native.Nat.{ℕ, _+_, _≤_, _<_}
 use mathlib.Core.Path.{_≡_}
-use mathlib.Core.List.{List, [], _∷_, _++_}
+use mathlib.Core.List.{List, [], _++_}
 use mathlib.Core.Bool.{true, false, _&&_}
 use lib.Dec.{ltb}
 use lib.IntN.{ℤ, pos}

@@ -18,7 +18,7 @@ use Rattle.sentence.specs.Numbers.{countOf, kindOf, numbersOf}
 use Rattle.numbers.specs.declared.Told.{Told}
 use Rattle.sentence.specs.ToHost.{laidFor, toldFor, toldOf}
 use Rattle.numbers.specs.Told.{told}
-use Rattle.tripsnumbers.proofs.Records.{many-numbers, most-numbers}
+use Rattle.sentence_laws.proofs.LawfulLayouts.{many-numbers, most-numbers}
 use Rattle.text.specs.Numbers.{decimalText}
 use Rattle.rows.specs.Row.{addressText, answerText, askedText, rowText, shown, toldRow}
 

@@ -1,13 +1,12 @@
 -- A body read by the ends that were kept: up to 20 of them give all fields; with more fields every kind refuses the count, whatever
 -- the fields are.
 use Prim.Native.Nat.{_-_, _<_, _≤_, ℕ}
-use mathlib.Core.Path.{_∙_, _≡_, ap, refl, sym}
+use mathlib.Core.Path.{_∙_, _≡_, ap, sym}
 use mathlib.Core.List.{List}
 use native.Mathlib.Omega.{arith}
 use mathlib.Core.Bool.{false}
 use lib.Dec.{eqb, lit≤}
 use lib.ListN.{length, replicate}
-use lib.Seq.{sets}
 use borrow.Author.Tests.{ne-eqb}
 use Rattle.address.specs.declared.Address.{Address}
 use Rattle.address.specs.declared.Address.the-variants.{Maker, Standard, Unknown}
@@ -18,7 +17,7 @@ use Rattle.address.specs.declared.Pir.the-variants as P
 use Rattle.address.specs.declared.Talker.{Talker}
 use Rattle.address.specs.Address.{addressOf}
 use Rattle.fields.specs.Fields.{fieldsOf}
-use Rattle.fields.specs.Places.{endsFrom, fieldsBy, Placed, theFields}
+use Rattle.fields.specs.Places.{fieldsBy, Placed, theFields}
 use Rattle.fields.proofs.Splitting.{first-field}
 use Rattle.fields.proofs.AllFields.{all-fields}
 use Rattle.sentence.specs.Sentence as S

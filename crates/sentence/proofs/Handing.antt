@@ -1,7 +1,7 @@
 -- A refusal on line 0 leaves the output, since its number is not 0; and a record that numbers say is written as the numbers are, but for a
 -- GPS mask that 32 bits do not hold.
 use Prim.Native.Nat.{_<_, _≤_, ℕ}
-use mathlib.Core.Path.{_∙_, _≡_, ap, refl, sym}
+use mathlib.Core.Path.{_∙_, _≡_, ap, sym}
 use mathlib.Core.Bool.{_&&_, Bool, false, true}
 use mathlib.Core.List.{[], List}
 use native.Mathlib.Omega.{arith}

@@ -91,7 +91,8 @@ module _ (t : Talker) (v : Gsv) (n : ℕ) (field : ℕ → List ℕ) where
       go (ltb 4 (entriesOf n)) (eqb (gsvRow (entriesOf n) .wrong g 0 0) 0) (gsvRow (entriesOf n) .wrong g 0 0)
       (gsvRow (entriesOf n) .value g) e
     where
-      go : (a b : Bool) (w : ℕ) (x : Values) → pick a (S.Refused 4 0) (pick b (S.Gsv u (gsvMade (entriesOf n) x)) (S.Refused 5 w)) ≡ S.Gsv t v
+      go : (a b : Bool) (w : ℕ) (x : Values)
+          → pick a (S.Refused 4 0) (pick b (S.Gsv u (gsvMade (entriesOf n) x)) (S.Refused 5 w)) ≡ S.Gsv t v
           → u ≡ t
       go true b w x e = no-gsv 4 0 t v e
       go false true w x e = cc

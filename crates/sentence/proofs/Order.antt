@@ -1,6 +1,6 @@
 -- The order of the refusals: the line rule's number comes first, then the address. Each is one way of the definition.
 use Prim.Native.Nat.{ℕ}
-use mathlib.Core.Path.{_≡_, refl}
+use mathlib.Core.Path.{_≡_}
 use mathlib.Core.List.{List}
 use borrow.Author.Tests.{ne-eqb, eq-eqb}
 use Rattle.line.specs.Line.{lineRefusal, bodyOf}

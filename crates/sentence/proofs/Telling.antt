@@ -2,7 +2,7 @@
 use Prim.Native.Nat.{ℕ}
 use mathlib.Core.Path.{_∙_, _≡_, ap, refl, sym}
 use mathlib.Core.Bool.{Bool, false, true}
-use mathlib.Core.List.{[], List}
+use mathlib.Core.List.{List}
 use borrow.Author.Tests.{ne-eqb}
 use native.Mathlib.Omega.{arith}
 use lib.Dec.{eqb, leb, ltb}
@@ -34,7 +34,7 @@ use Rattle.kind_pir_port.specs.Reply.{pirpaRow, pirpaTold}
 use Rattle.kind_pir_datum.specs.Reply.{pirtaRow, pirtaTold}
 use Rattle.kind_pir_masks.specs.Reply.{pirsaRow, pirsaTold}
 use Rattle.kind_pir_code.specs.Reply.{pireaRow, pireaTold}
-use Rattle.sentence.specs.Lines.{makerOf, refusal, standardOf}
+use Rattle.sentence.specs.Lines.{makerOf, standardOf}
 use Rattle.sentence.specs.Sentence as S
 use Rattle.sentence.specs.Sentence.{Sentence}
 use Rattle.sentence.specs.ToHost.{handed, toldOf}
@@ -45,7 +45,11 @@ module _ (out : List ℤ) where
   unfolding toldOf
   refused-told n field h =
       ap (λ (l : List ℤ). (told n 0 field, l)) (laid-none out .1)
-      ∙ ap (λ (b : Bool). (pick b (pick (leb 0 (length out)) (told 0 0 0) (told 8 0 0)) (told n 0 field), handed (S.Refused n field) out .1))
+      ∙ ap (λ (b : Bool). (
+        pick b (pick (leb 0 (length out)) (told 0 0 0) (told 8 0 0)) (told n 0 field),
+        handed (S.Refused n field) out
+            .1,
+      ))
       (sym (ne-eqb n 0 h))
 
   four : refuses out 4 0 ≡ handed (S.Refused 4 0) out
@@ -129,5 +133,6 @@ module _ (out : List ℤ) where
     maker-told P.Ea = by-row pireaRow S.Ea _ (λ r. refl)
 
 -- What is told of a refusal is what the sentence comes to that was refused.
-pub refused-as : (out : List ℤ) (t : Told) (n : ℕ) (s : Sentence) → t ≡ told n 0 0 → (n ≡ 0 → ⊥) → S.Refused n 0 ≡ s → Tells (handed s out) t out
+pub refused-as : (out : List ℤ) (t : Told) (n : ℕ) (s : Sentence) → t ≡ told n 0 0 → (n ≡ 0 → ⊥) → S.Refused n 0 ≡ s
+    → Tells (handed s out) t out
 refused-as out t n s e h i = tells-refused e (refused-told out n 0 h ∙ ap (λ (x : Sentence). handed x out) i)

@@ -1,6 +1,6 @@
 -- What a host writes: the record of a kind that its numbers say, by the writer of that kind. What is no record is refused on line 0.
 use Prim.Native.Nat.{ℕ}
-use mathlib.Core.Bool.{_&&_, Bool, false, not, true}
+use mathlib.Core.Bool.{_&&_, Bool, false, not}
 use mathlib.Core.List.{[], List}
 use lib.Dec.{eqb, leb}
 use lib.IntN.{ℤ}

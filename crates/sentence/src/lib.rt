@@ -18,7 +18,8 @@ ghost use Rattle.sentence.specs.ToHost.{handed, laidFor, toldFor};
 
 // A sentence of a talker, by its type.
 fn standard(out: &mut [i64], t: Talker, k: Kind, n: usize, s: &[u8], p: &[usize]) -> Told
-    ensures { λ r. ⌜ Tells (handed (standardOf t k n (fieldsBy (now (p .entry)) (now (s .entry)))) (now (out .entry))) r (now (out .exit)) ⌝ }
+    ensures { λ r. ⌜ Tells (handed (standardOf t k n (fieldsBy (now (p .entry)) (now (s .entry)))) (now (out .entry))) r (now (out .exit))
+        ⌝ }
 {
     match k {
         Kind::Gga => kind_gga::read(out, t, n, s, p),

@@ -19,7 +19,6 @@ use Rattle.form.specs.Row.{Row}
 use Rattle.form.proofs.Clean.{Clean}
 use Rattle.form.proofs.PlaceKind.{Placed}
 use Rattle.form.proofs.PlaceLaws.{Agree, namedAt}
-use Rattle.sentence.specs.Sentence.{Sentence}
 use Rattle.sentence.specs.Sentence as S
 use Rattle.kind_gga.specs.Row.{ggaRow}
 use Rattle.kind_gll.specs.Row.{gllRow}

@@ -1,5 +1,8 @@
 pub mod Addresses
 pub mod Back
+pub mod Crossing
+pub mod Fitted
+pub mod FittedKinds
 pub mod Five
 pub mod FiveLines
 pub mod FiveMaker
@@ -8,9 +11,13 @@ pub mod FiveStandard
 pub mod Gsa
 pub mod Gsv
 pub mod GsvSame
+pub mod HostBack
 pub mod KindLaws
 pub mod Known
+pub mod LawfulLayouts
 pub mod Maker
+pub mod NumbersBack
 pub mod Refusals
 pub mod Standard
+pub mod Told
 pub mod Trips

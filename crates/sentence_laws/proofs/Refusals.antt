@@ -1,9 +1,9 @@
 -- Refusals are what they say: the number of a refused line is 1 to 5, never 0; its field is 0 unless the number is 5.
 use Prim.Native.Nat.{_-_, _≤_, ℕ}
-use mathlib.Core.Bool.{Bool, false, true, true≢false}
+use mathlib.Core.Bool.{Bool, false, true}
 use mathlib.Core.List.{List}
 use mathlib.Core.Logic.{inl, inr}
-use mathlib.Core.Path.{_∙_, _≡_, ap, refl, sym}
+use mathlib.Core.Path.{_≡_, refl}
 use native.Mathlib.Omega.{arith}
 use lib.Dec.{eqb, lit≤, ltb}
 use lib.ListN.{length}
@@ -170,4 +170,5 @@ line-numbered l = go (eqb (lineRefusal l) 0) refl
   where
     go : (b : Bool) → eqb (lineRefusal l) 0 ≡ b → Numbered (pick b (readBody (bodyOf l)) (S.Refused (lineRefusal l) 0))
     go true q = body-numbered (bodyOf l)
-    go false q = refused (lineRefusal l) 0 (omega (arith, eqb-false (lineRefusal l) 0 q)) (least (lineRefusal l) (line-answer l)) (λ z. refl)
+    go false q =
+        refused (lineRefusal l) 0 (omega (arith, eqb-false (lineRefusal l) 0 q)) (least (lineRefusal l) (line-answer l)) (λ z. refl)

@@ -6,25 +6,18 @@ use mathlib.Core.Option.{Option, some}
 use mathlib.Core.Path.{_∙_, _≡_, ap, refl, sym}
 use native.Mathlib.Omega.{arith}
 use lib.Dec.{eqb, leb}
-use lib.IntN.{ℤ}
 use lib.ListN.{length}
 use borrow.Author.Tests.{eqb-true}
 use Rattle.digits.specs.Pick.{pick}
 use Rattle.lines.specs.Reader.{next, Step, stop}
 use Rattle.address.specs.declared.Talker.{Talker}
-use Rattle.numbers.specs.Layout.{whole}
-use Rattle.numbers.specs.Numbers.{talkerOf}
-use Rattle.numbers.specs.declared.Told.{Told}
 use Rattle.kind_gsv.specs.Blank.{blankGsv}
-use Rattle.kind_gsv.specs.Row.{gsvAt}
 use Rattle.kind_gsv.specs.declared.Entry.{Entry}
 use Rattle.kind_gsv.specs.declared.Gsv.{Gsv}
 use Rattle.sentence.specs.Lines.{readLine}
 use Rattle.sentence.specs.Numbers.{kindOf}
 use Rattle.sentence.specs.Sentence as S
 use Rattle.sentence.specs.Sentence.{Sentence}
-use Rattle.sentence.specs.ToHost.{laidFor, toldFor}
-use Rattle.tripsnumbers.proofs.Told.{gsv-told, told-kind, told-refused}
 use Rattle.sky.specs.Group.{entriesAt, entriesOf, follows, gsvRule, inPlace, linesFor, repeats, rule, ruled, sameTalker, Seen, seen}
 use Rattle.sky.specs.Group.{talkerNo, usedOf}
 use Rattle.sky_read.specs.Steps.{Before, Checks, faultOf, seenIf, seenOf, stepOf, Steps}
@@ -72,26 +65,6 @@ pub follows-later : (h : Head) (k : ℕ) (t : Talker) (v : Gsv) → h .begun ≡
     (eqb (h .lines) (v .lines) && (eqb (h .satellites) (v .satellites) && inPlace k v))) ≡ follows (seenOf h []) k t v
 unfolding follows sameTalker
 follows-later h k t v e = rw e
-
--- What was told of a line, to who lends room for every record, says what it was read to.
-module _ (l : List ℕ) (out : List ℤ) (full : length out ≡ 33) (t : Told) (e : t ≡ toldFor (readLine l) out) where
-  not-refused : t .no ≡ 0 → toldFor (readLine l) out .no ≡ 0
-  not-refused h = ap (λ (x : Told). x .no) (sym e) ∙ h
-
-  pub line-refused : (t .no ≡ 0 → ⊥) → readLine l ≡ S.Refused (t .no) (t .field)
-  line-refused h =
-      told-refused l out full (λ q. h (ap (λ (x : Told). x .no) e ∙ q)) ∙ ap (λ (x : Told). S.Refused (x .no) (x .field)) (sym e)
-
-  pub line-other : t .no ≡ 0 → (t .kind ≡ 4 → ⊥) → (kindOf (readLine l) ≡ 0 → ⊥) × (kindOf (readLine l) ≡ 4 → ⊥)
-  line-other h o =
-      let z = told-kind l out full (not-refused h) in
-      (z .1, λ q. o (ap (λ (x : Told). x .kind) e ∙ z .0 ∙ q))
-
-  pub line-gsv : (left : List ℤ) → left ≡ laidFor (readLine l) out → t .no ≡ 0 → t .kind ≡ 4
-      → readLine l ≡ S.Gsv (talkerOf (whole .at left 0)) (gsvAt left)
-  line-gsv left p h k =
-      gsv-told l out full (not-refused h) (ap (λ (x : Told). x .kind) (sym e) ∙ k)
-      ∙ ap (λ (n : List ℤ). S.Gsv (talkerOf (whole .at n 0)) (gsvAt n)) (sym p)
 
 -- What the rule says of a line that was read, by the sentence.
 module _ (q : Option Seen) (k : ℕ) (l : List ℕ) where

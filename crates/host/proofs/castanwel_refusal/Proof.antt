@@ -4,7 +4,7 @@ use lib.IntN.{pos}
 use lib.ListN.{replicate}
 use borrow.Author.Needs.{needs}
 use Rattle.numbers.specs.declared.Told.{Told}
-use Rattle.tripsnumbers.proofs.Told.{told-refusal}
+use Rattle.sentence_laws.proofs.Told.{told-refusal}
 use Rattle.host.proofs.castanwel_refusal.Statement.{statement}
 use Rattle.host.proofs.castanwel_refusal.Tie as tie
 

@@ -19,7 +19,21 @@ returns c =
     let b9 = b8 .before in
     let b10 = b9 .before in
     let b11 = b10 .before in
-    tells-wrong _ _ _ _ (d .before .near11 .result) (c .refuse .ensures) (rw (← b11 .near .ensures, ← b10 .near2 .ensures, ← b9 .near3 .ensures, ← b8 .near4 .ensures, ← b7 .near5 .ensures, ← b6 .near6 .ensures, ← b5 .near7 .ensures, ← b4 .near8 .ensures, ← b3 .near9 .ensures, ← b2 .near10 .ensures, ← d .before .near11 .ensures)) (d .if1 .taken)
+    tells-wrong _ _ _ _ (d .before .near11 .result) (c .refuse .ensures)
+    (rw (
+      ← b11 .near .ensures,
+      ← b10 .near2 .ensures,
+      ← b9 .near3 .ensures,
+      ← b8 .near4 .ensures,
+      ← b7 .near5 .ensures,
+      ← b6 .near6 .ensures,
+      ← b5 .near7 .ensures,
+      ← b4 .near8 .ensures,
+      ← b3 .near9 .ensures,
+      ← b2 .near10 .ensures,
+      ← d .before .near11 .ensures,
+    ))
+    (d .if1 .taken)
 
 returns-2 : tie.Need-returns-2
 unfolding ggaRow
@@ -43,7 +57,29 @@ returns-2 c =
     let b17 = b16 .before in
     let b18 = b17 .before in
     let b19 = b18 .before in
-    tells-right _ _ _ _ _ (c .before .lay .ensures) (rw (← b19 .near .ensures, ← b18 .near2 .ensures, ← b17 .near3 .ensures, ← b16 .near4 .ensures, ← b15 .near5 .ensures, ← b14 .near6 .ensures, ← b13 .near7 .ensures, ← b12 .near8 .ensures, ← b11 .near9 .ensures, ← b10 .near10 .ensures, ← b9 .near11 .ensures) (b8 .if1 .left)) (rw (b7 .kept .ensures, b6 .placed .ensures, b5 .kept2 .ensures, b4 .number .ensures, b3 .signed .ensures, b2 .signed2 .ensures, d .before .number2 .ensures, d .kept3 .ensures))
+    tells-right _ _ _ _ _ (c .before .lay .ensures) (rw (
+      ← b19 .near .ensures,
+      ← b18 .near2 .ensures,
+      ← b17 .near3 .ensures,
+      ← b16 .near4 .ensures,
+      ← b15 .near5 .ensures,
+      ← b14 .near6 .ensures,
+      ← b13 .near7 .ensures,
+      ← b12 .near8 .ensures,
+      ← b11 .near9 .ensures,
+      ← b10 .near10 .ensures,
+      ← b9 .near11 .ensures,
+    ) (b8 .if1 .left))
+    (rw (
+      b7 .kept .ensures,
+      b6 .placed .ensures,
+      b5 .kept2 .ensures,
+      b4 .number .ensures,
+      b3 .signed .ensures,
+      b2 .signed2 .ensures,
+      d .before .number2 .ensures,
+      d .kept3 .ensures,
+    ))
 
 pub gga-from-spec : {M : Type 1} → statement M
 gga-from-spec =

@@ -24,7 +24,20 @@ returns-2 c =
     let b10 = b9 .before in
     let b11 = b10 .before in
     let b12 = b11 .before in
-    tells-fields _ _ _ _ _ _ (c .before .gga-from .ensures) (b12 .if1 .left) (rw (d .before .fixed-in2 .ensures, b2 .number-in2 .ensures, b3 .unit-in2 .ensures, b4 .height-in2 .ensures, b5 .unit-in .ensures, b6 .height-in .ensures, b7 .number-in .ensures, b8 .fixed-in .ensures, b9 .exact-in .ensures, b10 .position-in .ensures, b11 .time-in .ensures))
+    tells-fields _ _ _ _ _ _ (c .before .gga-from .ensures) (b12 .if1 .left)
+    (rw (
+      d .before .fixed-in2 .ensures,
+      b2 .number-in2 .ensures,
+      b3 .unit-in2 .ensures,
+      b4 .height-in2 .ensures,
+      b5 .unit-in .ensures,
+      b6 .height-in .ensures,
+      b7 .number-in .ensures,
+      b8 .fixed-in .ensures,
+      b9 .exact-in .ensures,
+      b10 .position-in .ensures,
+      b11 .time-in .ensures,
+    ))
 
 pub read-spec : {M : Type 1} → statement M
 read-spec =

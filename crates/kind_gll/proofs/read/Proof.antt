@@ -17,7 +17,8 @@ returns-2 c =
     let b5 = b3 .before .before in
     let b6 = b5 .before in
     let b7 = b6 .before in
-    tells-fields _ _ _ _ _ _ (c .before .gll-from .ensures) (b7 .if1 .left) (rw (d .before .letter-in2 .ensures, b3 .letter-in .ensures, b5 .time-in .ensures, b6 .position-in .ensures))
+    tells-fields _ _ _ _ _ _ (c .before .gll-from .ensures) (b7 .if1 .left)
+    (rw (d .before .letter-in2 .ensures, b3 .letter-in .ensures, b5 .time-in .ensures, b6 .position-in .ensures))
 
 pub read-spec : {M : Type 1} → statement M
 read-spec =

@@ -1,6 +1,6 @@
 -- The values before place i are stored; the laws stand in slots.
 use Prim.Native.Nat.{_-_}
-use mathlib.Core.Path.{_∙_, _≡_, ap, sym}
+use mathlib.Core.Path.{_≡_, sym}
 use mathlib.Core.List.{[]}
 use native.Mathlib.Omega.{arith}
 use borrow.Author.Needs.{needs}

@@ -21,7 +21,18 @@ returns-2 c =
     let b8 = b7 .before in
     let b10 = b8 .before .before in
     let b11 = b10 .before in
-    tells-fields _ _ _ _ _ _ (c .before .rmc-from .ensures) (b11 .if1 .left) (rw (d .before .letter-in2 .ensures, b3 .variation-in .ensures, b4 .six-in .ensures, b5 .below-in .ensures, b6 .number-in .ensures, b7 .position-in .ensures, b8 .letter-in .ensures, b10 .time-in .ensures))
+    tells-fields _ _ _ _ _ _ (c .before .rmc-from .ensures) (b11 .if1 .left)
+    (rw (
+      d .before .letter-in2 .ensures,
+      b3 .variation-in .ensures,
+      b4 .six-in .ensures,
+      b5 .below-in .ensures,
+      b6 .number-in .ensures,
+      b7
+          .position-in .ensures,
+      b8 .letter-in .ensures,
+      b10 .time-in .ensures,
+    ))
 
 pub read-spec : {M : Type 1} → statement M
 read-spec =

@@ -22,7 +22,19 @@ returns-2 c =
     let b9 = b8 .before in
     let b10 = b9 .before in
     let b11 = b10 .before in
-    tells-fields _ _ _ _ _ _ (c .before .vtg-from .ensures) (b11 .if1 .left) (rw (d .before .letter-in .ensures, b3 .unit-in4 .ensures, b4 .number-in2 .ensures, b5 .unit-in3 .ensures, b6 .number-in .ensures, b7 .unit-in2 .ensures, b8 .below-in2 .ensures, b9 .unit-in .ensures, b10 .below-in .ensures))
+    tells-fields _ _ _ _ _ _ (c .before .vtg-from .ensures) (b11 .if1 .left)
+    (rw (
+      d .before .letter-in .ensures,
+      b3 .unit-in4 .ensures,
+      b4 .number-in2 .ensures,
+      b5 .unit-in3 .ensures,
+      b6 .number-in .ensures,
+      b7
+          .unit-in2 .ensures,
+      b8 .below-in2 .ensures,
+      b9 .unit-in .ensures,
+      b10 .below-in .ensures,
+    ))
 
 pub read-spec : {M : Type 1} → statement M
 read-spec =

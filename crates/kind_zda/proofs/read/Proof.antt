@@ -16,7 +16,8 @@ returns-2 c =
     let b2 = d .before .before in
     let b3 = b2 .before in
     let b4 = b3 .before in
-    tells-fields _ _ _ _ _ _ (c .before .zda-from .ensures) (b4 .if1 .left) (rw (d .before .zone-in .ensures, b2 .three-in .ensures, b3 .time-in .ensures))
+    tells-fields _ _ _ _ _ _ (c .before .zda-from .ensures) (b4 .if1 .left)
+    (rw (d .before .zone-in .ensures, b2 .three-in .ensures, b3 .time-in .ensures))
 
 pub read-spec : {M : Type 1} → statement M
 read-spec =

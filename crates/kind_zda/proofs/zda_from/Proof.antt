@@ -11,7 +11,8 @@ returns c =
     let d = c .before in
     let b2 = d .before .before in
     let b3 = b2 .before in
-    tells-wrong _ _ _ _ (d .before .near3 .result) (c .refuse .ensures) (rw (← b3 .near .ensures, ← b2 .near2 .ensures, ← d .before .near3 .ensures)) (d .if1 .taken)
+    tells-wrong _ _ _ _ (d .before .near3 .result) (c .refuse .ensures)
+    (rw (← b3 .near .ensures, ← b2 .near2 .ensures, ← d .before .near3 .ensures)) (d .if1 .taken)
 
 returns-2 : tie.Need-returns-2
 unfolding zdaRow
@@ -22,7 +23,8 @@ returns-2 c =
     let b4 = b3 .before in
     let b5 = b4 .before in
     let b6 = b5 .before in
-    tells-right _ _ _ _ _ (c .before .lay .ensures) (rw (← b6 .near .ensures, ← b5 .near2 .ensures, ← b4 .near3 .ensures) (b3 .if1 .left)) (rw (b2 .kept .ensures, d .before .dated .ensures, d .zoned .ensures))
+    tells-right _ _ _ _ _ (c .before .lay .ensures) (rw (← b6 .near .ensures, ← b5 .near2 .ensures, ← b4 .near3 .ensures) (b3 .if1 .left))
+    (rw (b2 .kept .ensures, d .before .dated .ensures, d .zoned .ensures))
 
 pub zda-from-spec : {M : Type 1} → statement M
 zda-from-spec =

@@ -1,5 +1,4 @@
 -- The two bounds are those of a mark.
-use mathlib.Core.Path.{_∙_}
 use borrow.Author.Needs.{needs}
 use mir.Syntax.{w64}
 use mir.Facts.{toZ-ofZ}

@@ -1,5 +1,5 @@
 -- The two tests leave the numbers that 32 bits hold.
-use mathlib.Core.Path.{_≡_, sym, _∙_}
+use mathlib.Core.Path.{_≡_}
 use mathlib.Core.Bool.{false}
 use borrow.Author.Needs.{needs}
 use lib.Signed.{ltZ}

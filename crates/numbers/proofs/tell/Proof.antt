@@ -9,14 +9,20 @@ use Rattle.numbers.proofs.tell.Tie as tie
 returns : tie.Need-returns
 unfolding gives
 returns c =
-    let l = c .before .before .before .lay .ensures in
-    (c .bare .ensures ∙ ap (λ b. pick b (told 0 (c .before .before .before .before .before .args .kind) 0) (told 8 0 0)) (sym (c .before .if1 .taken) ∙ l .0), l .1)
+    let l = c .before .before .before .lay .ensures in (
+      c .bare .ensures ∙ ap (λ b. pick b (told 0 (c .before .before .before .before .before .args .kind) 0) (told 8 0 0))
+          (sym (c .before .if1 .taken) ∙ l .0),
+      l .1,
+    )
 
 returns-2 : tie.Need-returns-2
 unfolding gives
 returns-2 c =
-    let l = c .before .before .before .lay .ensures in
-    (c .refuse .ensures ∙ ap (λ b. pick b (told 0 (c .before .before .before .before .before .args .kind) 0) (told 8 0 0)) (sym (c .before .if1 .left) ∙ l .0), l .1)
+    let l = c .before .before .before .lay .ensures in (
+      c .refuse .ensures ∙ ap (λ b. pick b (told 0 (c .before .before .before .before .before .args .kind) 0) (told 8 0 0))
+          (sym (c .before .if1 .left) ∙ l .0),
+      l .1,
+    )
 
 pub tell-spec : {M : Type 1} → statement M
 tell-spec =

@@ -45,7 +45,8 @@ returns-2 c =
     let b3 = b2 .before in
     let s = b3 .before .before .args in
     tells-as (d .read-body .ensures)
-    (rw body-part (ap (λ (x : Sentence). handed x (s .numbers .now)) (sym (sound (s .line .now) (sym (b3 .line-refusal .ensures) ∙ b2 .if1 .left)))))
+    (rw body-part (ap (λ (x : Sentence). handed x (s .numbers .now))
+    (sym (sound (s .line .now) (sym (b3 .line-refusal .ensures) ∙ b2 .if1 .left)))))
 
 pub read-spec : {M : Type 1} → statement M
 read-spec =

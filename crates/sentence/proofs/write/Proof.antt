@@ -1,8 +1,7 @@
 -- `write` meets its contract: the count of its kind decides first, then the address; a refusal leaves the output.
-use mathlib.Core.Path.{_≡_, refl, sym, _∙_}
+use mathlib.Core.Path.{sym, _∙_}
 use native.Mathlib.Omega.{arith}
 use denote.Ref.{now}
-use lib.ListN.{length}
 use Rattle.sentence.proofs.Numbered.{too-few, enough}
 use Rattle.sentence.proofs.Handing.{written-is, handed, few-over, enough-over}
 use borrow.Author.Needs.{needs}

@@ -8,10 +8,10 @@ use borrow.Author.Needs.{needs}
 use Rattle.numbers.specs.Numbers.{talkerOf}
 use Rattle.sentence.specs.Lines.{readLine}
 use Rattle.sentence.specs.Sentence as S
+use Rattle.sentence_laws.proofs.Told.{line-gsv, line-kind, line-refused}
 use Rattle.sky_read.specs.Steps.{seenOf}
 use Rattle.sky_read.proofs.SoundLaws.{sound}
-use Rattle.sky_read.proofs.StepLaws.{line-gsv, line-other, line-refused, rule-fault, rule-other, rule-refused, steps-stop}
-use Rattle.sky_read.proofs.StepLaws.{steps-taken}
+use Rattle.sky_read.proofs.StepLaws.{rule-fault, rule-other, rule-refused, steps-stop, steps-taken}
 use Rattle.sky_read.proofs.step.Statement.{statement}
 use Rattle.sky_read.proofs.step.Tie as tie
 
@@ -25,17 +25,17 @@ returns c =
     let args = r .before .before .before .before .args in
     steps-stop (args .head) (args .k) (args .line .now) (args .seen .now) (args .seen .now) refl (c .stop .result) _ _ (c .stop .ensures)
     (λ es i. rule-refused (seenOf (args .head) es) (args .k) (args .line .now) _ _
-    (line-refused (args .line .now) zeros refl (r .read .result) (r .read .ensures .0) (c .before .if1 .taken)))
+    (line-refused (args .line .now) zeros refl (r .read .result) _ (r .read .ensures) (c .before .if1 .taken)))
 
 returns-2 : tie.Need-returns-2
 returns-2 c =
     let b3 = c .before .before .before in
     let r = b3 .before .before .before in
     let args = r .before .before .before .before .args in
-    let other =
-    line-other (args .line .now) zeros refl (r .read .result) (r .read .ensures .0) (b3 .if1 .left) (c .before .if2 .taken) in
+    let kind = line-kind (args .line .now) zeros refl (r .read .result) _ (r .read .ensures) (b3 .if1 .left) in
     steps-stop (args .head) (args .k) (args .line .now) (args .seen .now) (args .seen .now) refl (c .stop2 .result) 6 0
-    (c .stop2 .ensures) (λ es i. rule-other (seenOf (args .head) es) (args .k) (args .line .now) (other .0) (other .1))
+    (c .stop2 .ensures) (λ es i. rule-other (seenOf (args .head) es) (args .k) (args .line .now) (kind .1)
+    (λ q. c .before .if2 .taken (kind .0 ∙ q)))
 
 -- Where a record was taken from the numbers of the line.
 abbrev start : tie.After-at → tie.Start
@@ -51,7 +51,7 @@ gsv-is c =
     let else2 = talker .before .before .before in
     let else1 = else2 .before .before in
     let r = else1 .before .before .before in
-    line-gsv (lineAt c) zeros refl (r .read .result) (r .read .ensures .0) _ (r .read .ensures .1) (else1 .if1 .left) (else2 .if2 .left)
+    line-gsv (lineAt c) zeros refl (r .read .result) _ (r .read .ensures) (else1 .if1 .left) (else2 .if2 .left)
     ∙ ap₂ S.Gsv (sym (talker .talker-of .ensures ∙ ap talkerOf (talker .before .whole-at .ensures))) (sym (c .at .ensures))
 
 follows-requires : tie.Need-follows-requires

@@ -16,7 +16,8 @@ returns-2 c =
     let b2 = d .before .before in
     let b3 = b2 .before in
     let b4 = b3 .before in
-    tells-fields _ _ _ _ _ _ (c .before .pirsa-from .ensures) (b4 .if1 .left) (rw (d .before .empty-in .ensures, b2 .whole-in2 .ensures, b3 .whole-in .ensures))
+    tells-fields _ _ _ _ _ _ (c .before .pirsa-from .ensures) (b4 .if1 .left)
+    (rw (d .before .empty-in .ensures, b2 .whole-in2 .ensures, b3 .whole-in .ensures))
 
 pub read-spec : {M : Type 1} → statement M
 read-spec =

@@ -14,7 +14,15 @@ returns c =
     let b4 = b3 .before in
     let b5 = b4 .before in
     let b6 = b5 .before in
-    tells-wrong _ _ _ _ (d .before .near4 .result) (c .refuse .ensures) (rw (← b6 .needed .ensures, ← b5 .near .ensures, ← b4 .needed2 .ensures, ← b3 .near2 .ensures, ← b2 .near3 .ensures, ← d .before .near4 .ensures)) (d .if1 .taken)
+    tells-wrong _ _ _ _ (d .before .near4 .result) (c .refuse .ensures)
+    (rw (
+      ← b6 .needed .ensures,
+      ← b5 .near .ensures,
+      ← b4 .needed2 .ensures,
+      ← b3 .near2 .ensures,
+      ← b2 .near3 .ensures,
+      ← d .before .near4 .ensures,
+    )) (d .if1 .taken)
 
 returns-2 : tie.Need-returns-2
 unfolding pirprRow
@@ -29,7 +37,15 @@ returns-2 c =
     let b8 = b7 .before in
     let b9 = b8 .before in
     let b10 = b9 .before in
-    tells-right _ _ _ _ _ (c .before .lay .ensures) (rw (← b10 .needed .ensures, ← b9 .near .ensures, ← b8 .needed2 .ensures, ← b7 .near2 .ensures, ← b6 .near3 .ensures, ← b5 .near4 .ensures) (b4 .if1 .left)) (rw (b3 .kept .ensures, b2 .kept2 .ensures, d .before .kept-if .ensures, d .kept-if2 .ensures))
+    tells-right _ _ _ _ _ (c .before .lay .ensures) (rw (
+      ← b10 .needed .ensures,
+      ← b9 .near .ensures,
+      ← b8 .needed2 .ensures,
+      ← b7 .near2 .ensures,
+      ← b6 .near3 .ensures,
+      ← b5 .near4 .ensures,
+    ) (b4 .if1 .left))
+    (rw (b3 .kept .ensures, b2 .kept2 .ensures, d .before .kept-if .ensures, d .kept-if2 .ensures))
 
 pub pirpr-from-spec : {M : Type 1} → statement M
 pirpr-from-spec =

@@ -17,7 +17,8 @@ returns-2 c =
     let b3 = b2 .before in
     let b4 = b3 .before in
     let b5 = b4 .before in
-    tells-fields _ _ _ _ _ _ (c .before .pirpr-from .ensures) (b5 .if1 .left) (rw (d .before .port-mask-in .ensures, b2 .fixed-in2 .ensures, b3 .rate-in .ensures, b4 .fixed-in .ensures))
+    tells-fields _ _ _ _ _ _ (c .before .pirpr-from .ensures) (b5 .if1 .left)
+    (rw (d .before .port-mask-in .ensures, b2 .fixed-in2 .ensures, b3 .rate-in .ensures, b4 .fixed-in .ensures))
 
 pub read-spec : {M : Type 1} → statement M
 read-spec =

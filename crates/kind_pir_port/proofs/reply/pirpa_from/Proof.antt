@@ -15,7 +15,15 @@ returns c =
     let b4 = b3 .before in
     let b5 = b4 .before in
     let b6 = b5 .before in
-    tells-wrong _ _ _ _ (d .before .near4 .result) (c .refuse .ensures) (rw (← b6 .needed .ensures, ← b5 .near .ensures, ← b4 .near2 .ensures, ← b3 .needed2 .ensures, ← b2 .near3 .ensures, ← d .before .near4 .ensures)) (d .if1 .taken)
+    tells-wrong _ _ _ _ (d .before .near4 .result) (c .refuse .ensures)
+    (rw (
+      ← b6 .needed .ensures,
+      ← b5 .near .ensures,
+      ← b4 .near2 .ensures,
+      ← b3 .needed2 .ensures,
+      ← b2 .near3 .ensures,
+      ← d .before .near4 .ensures,
+    )) (d .if1 .taken)
 
 returns-2 : tie.Need-returns-2
 unfolding pirpaRow
@@ -26,7 +34,14 @@ returns-2 c =
     let b4 = b3 .before in
     let b5 = b4 .before in
     let b6 = b5 .before in
-    tells-right _ _ _ _ _ (c .before .lay .ensures) (rw (← b6 .needed .ensures, ← b5 .near .ensures, ← b4 .near2 .ensures, ← b3 .needed2 .ensures, ← b2 .near3 .ensures, ← d .before .near4 .ensures) (d .if1 .left)) refl
+    tells-right _ _ _ _ _ (c .before .lay .ensures) (rw (
+      ← b6 .needed .ensures,
+      ← b5 .near .ensures,
+      ← b4 .near2 .ensures,
+      ← b3 .needed2 .ensures,
+      ← b2 .near3 .ensures,
+      ← d .before .near4 .ensures,
+    ) (d .if1 .left)) refl
 
 pub pirpa-from-spec : {M : Type 1} → statement M
 pirpa-from-spec =

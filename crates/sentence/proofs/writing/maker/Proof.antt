@@ -1,5 +1,5 @@
 -- `maker` meets its contract: a GPS mask that does not fit is refused; else each of the maker's sentences has its record and its writer.
-use mathlib.Core.Path.{_≡_, sym, _∙_}
+use mathlib.Core.Path.{sym, _∙_}
 use denote.Ref.{now}
 use borrow.Author.Needs.{needs}
 use Rattle.sentence.specs.Back.{makerAt}

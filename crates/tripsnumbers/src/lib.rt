@@ -1,1 +1,0 @@
-// Records to numbers and back: proofs only.
