@@ -8,13 +8,14 @@ extern "C" {
     fn castanwel_next_line(s: *const u8, s_len: usize, at: usize, start: *mut usize, end: *mut usize) -> bool;
     fn castanwel_feed(held: usize, b: u8, line: *mut usize) -> usize;
     fn castanwel_places(body: *const u8, body_len: usize, ends: *mut usize, ends_len: usize) -> usize;
-    fn castanwel_refusal(line: *const u8, line_len: usize, field: *mut usize) -> u8;
+    fn castanwel_refusal(line: *const u8, line_len: usize, at_line: *mut usize, field: *mut usize) -> u8;
     fn castanwel_read(
         line: *const u8,
         line_len: usize,
         numbers: *mut i64,
         numbers_len: usize,
         kind: *mut u32,
+        at_line: *mut usize,
         field: *mut usize,
     ) -> u8;
     fn castanwel_write(
@@ -44,7 +45,7 @@ extern "C" {
         line: *mut usize,
         field: *mut usize,
     ) -> u8;
-    fn castanwel_start(settings: *mut i64, settings_len: usize) -> u8;
+    fn castanwel_start(settings: *mut i64, settings_len: usize, line: *mut usize, field: *mut usize) -> u8;
     fn castanwel_step(
         settings: *mut i64,
         settings_len: usize,
@@ -57,7 +58,14 @@ extern "C" {
         at_line: *mut usize,
         field: *mut usize,
     ) -> u8;
-    fn castanwel_counts(settings: *const i64, settings_len: usize, gps: *mut u32, glonass: *mut u32) -> u8;
+    fn castanwel_counts(
+        settings: *const i64,
+        settings_len: usize,
+        gps: *mut u32,
+        glonass: *mut u32,
+        line: *mut usize,
+        field: *mut usize,
+    ) -> u8;
     fn castanwel_index_write(
         entries: *const u64,
         entries_len: usize,
@@ -156,9 +164,9 @@ pub fn places(body: &[u8], ends: &mut [usize]) -> usize {
 /// assert_eq!(castanwel::refusal(twelve_fields).unwrap().number, 4);
 /// ```
 pub fn refusal(line: &[u8]) -> Option<Refusal> {
-    let mut field = 0;
-    let number = unsafe { castanwel_refusal(line.as_ptr(), line.len(), &mut field) };
-    refused(number, 1, field).err()
+    let (mut at_line, mut field) = (0, 0);
+    let number = unsafe { castanwel_refusal(line.as_ptr(), line.len(), &mut at_line, &mut field) };
+    refused(number, at_line, field).err()
 }
 
 /// Reads `line` to the numbers of its record, and gives the number of its kind. Refused with 8 and line 0 where `numbers` is
@@ -170,11 +178,11 @@ pub fn refusal(line: &[u8]) -> Option<Refusal> {
 /// assert_eq!(numbers[..5], [4, 1, 1, 0, 0]);
 /// ```
 pub fn read(line: &[u8], numbers: &mut [i64]) -> Result<u32, Refusal> {
-    let (mut kind, mut field) = (0, 0);
-    let number = unsafe {
-        castanwel_read(line.as_ptr(), line.len(), numbers.as_mut_ptr(), numbers.len(), &mut kind, &mut field)
-    };
-    refused(number, usize::from(number != 8), field)?;
+    let (mut kind, mut at_line, mut field) = (0, 0, 0);
+    let (pointer, room) = (numbers.as_mut_ptr(), numbers.len());
+    let number =
+        unsafe { castanwel_read(line.as_ptr(), line.len(), pointer, room, &mut kind, &mut at_line, &mut field) };
+    refused(number, at_line, field)?;
     Ok(kind)
 }
 
@@ -240,8 +248,9 @@ pub fn write_group(numbers: &[i64], out: &mut [u8]) -> Result<usize, Refusal> {
 /// assert_eq!(settings, [4800, 4, 127, 4800, 4, 127, 0, 0, 0xffff_ffff, 0xff_ffff, 0]);
 /// ```
 pub fn start(settings: &mut [i64]) -> Result<(), Refusal> {
-    let number = unsafe { castanwel_start(settings.as_mut_ptr(), settings.len()) };
-    refused(number, 0, 0)
+    let (mut line, mut field) = (0, 0);
+    let number = unsafe { castanwel_start(settings.as_mut_ptr(), settings.len(), &mut line, &mut field) };
+    refused(number, line, field)
 }
 
 /// Carries out the command `line` that arrived on a port: changes the settings, writes the reply and gives its length. A refusal
@@ -283,9 +292,10 @@ pub fn step(settings: &mut [i64], arrival: u32, line: &[u8], out: &mut [u8]) -> 
 /// assert_eq!(castanwel::numbers::counts(&settings), Ok((30, 23)));
 /// ```
 pub fn counts(settings: &[i64]) -> Result<(u32, u32), Refusal> {
-    let (mut gps, mut glonass) = (0, 0);
-    let number = unsafe { castanwel_counts(settings.as_ptr(), settings.len(), &mut gps, &mut glonass) };
-    refused(number, 0, 0)?;
+    let (mut gps, mut glonass, mut line, mut field) = (0, 0, 0, 0);
+    let (pointer, count) = (settings.as_ptr(), settings.len());
+    let number = unsafe { castanwel_counts(pointer, count, &mut gps, &mut glonass, &mut line, &mut field) };
+    refused(number, line, field)?;
     Ok((gps, glonass))
 }
 

@@ -71,7 +71,7 @@ use Rattle.index.specs.Answers as Exhibit
 use Rattle.index.specs.declared.Entry as IndexEntry
 use Rattle.index.proofs.Promises as Promises
 use Rattle.index.proofs.Turns as IndexTurns
-use Rattle.host.specs.Index.{setAt}
+use Rattle.host.specs.Answer.{setAt}
 use Rattle.form.proofs.PlaceLaws.{Agree}
 use Rattle.form_date.proofs.PlaceDate.{no-such-day}
 use Rattle.form_date.specs.Dates.{dateThree}

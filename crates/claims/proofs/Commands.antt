@@ -31,7 +31,7 @@ refused-settings : (s : Settings) (o : Outcome) (room : ℕ) → (answerOf o roo
 refused-settings s (refuses n k f) room h = refl
 refused-settings s (replies after fault body) room h = rw (ne-eqb (writtenOf fault body room .no) 0 h)
 
-refused-output : (o : Outcome) (out : List ℕ) → (answerOf o (length out) .no ≡ 0 → ⊥) → outputAfter o out ≡ out
+pub refused-output : (o : Outcome) (out : List ℕ) → (answerOf o (length out) .no ≡ 0 → ⊥) → outputAfter o out ≡ out
 unfolding leftOf
 refused-output (refuses n k f) out h = refl
 refused-output (replies after fault body) out h = rw (ne-eqb (writtenOf fault body (length out) .no) 0 h)

@@ -44,6 +44,7 @@ use Rattle.sentence.specs.Lines.{readLine}
 use Rattle.sentence.specs.ToHost.{toldFor, laidFor}
 use Rattle.sentence.specs.FromHost.{leftAs, maskOver, numbersFault, recordBody, writtenAs}
 use Rattle.sky.specs.Group.{groupOf}
+use Rattle.host.specs.Answer.{setAt, singleLine}
 use Rattle.host.specs.Group.{handed, groupPut}
 use Rattle.host.specs.Command.{startNo, stepped, countsAt}
 use Rattle.claims.proofs.Determined.{One, one}
@@ -191,10 +192,12 @@ pub host-record : (line : List ℕ) (numbers : List ℤ)
     → One (toldFor (readLine line) numbers) × One (laidFor (readLine line) numbers)
 host-record line numbers = (one, one)
 
-pub host-read-numbers : (line : List ℕ) (numbers : List ℤ)
-    → One (toldFor (readLine line) numbers .no) × One (toldFor (readLine line) numbers .kind)
-    × One (toldFor (readLine line) numbers .field) × One (laidFor (readLine line) numbers)
-host-read-numbers line numbers = (one, one, one, one)
+pub host-read-numbers : (line : List ℕ) (numbers : List ℤ) (kind : ℕ)
+    → One (toldFor (readLine line) numbers .no)
+    × One (setAt (toldFor (readLine line) numbers .no) (toldFor (readLine line) numbers .kind) kind)
+    × One (singleLine (toldFor (readLine line) numbers .no)) × One (toldFor (readLine line) numbers .field)
+    × One (laidFor (readLine line) numbers)
+host-read-numbers line numbers kind = (one, one, one, one, one)
 
 pub write-standard : (t : Talker) (k : Kind) (n : List ℤ) (out : List ℕ)
     → OneWriting (numbersFault false (standardAt t k n)) (recordBody (standardAt t k n)) out
@@ -208,31 +211,35 @@ pub host-line : (kind : ℕ) (numbers : List ℤ) (out : List ℕ)
     → One (writtenAs kind numbers out) × One (leftAs kind numbers out)
 host-line kind numbers out = (one, one)
 
-pub host-write : (kind : ℕ) (numbers : List ℤ) (out : List ℕ)
-    → One (writtenAs kind numbers out .no) × One (writtenAs kind numbers out .length) × One (writtenAs kind numbers out .line)
-    × One (writtenAs kind numbers out .field) × One (leftAs kind numbers out)
-host-write kind numbers out = (one, one, one, one, one)
+pub host-write : (kind : ℕ) (numbers : List ℤ) (out : List ℕ) (stood : ℕ)
+    → One (writtenAs kind numbers out .no) × One (setAt (writtenAs kind numbers out .no) (writtenAs kind numbers out .length) stood)
+    × One (writtenAs kind numbers out .line) × One (writtenAs kind numbers out .field) × One (leftAs kind numbers out)
+host-write kind numbers out stood = (one, one, one, one, one)
 
 pub host-read-group : (s : List ℕ) (numbers : List ℤ)
     → One (handed (groupOf s) numbers .no) × One (handed (groupOf s) numbers .line) × One (handed (groupOf s) numbers .field)
     × One (handed (groupOf s) numbers .numbers)
 host-read-group s numbers = (one, one, one, one)
 
-pub host-write-group : (numbers : List ℤ) (out : List ℕ)
-    → One (groupPut numbers out .answer .no) × One (groupPut numbers out .answer .length) × One (groupPut numbers out .answer .line)
-    × One (groupPut numbers out .answer .field) × One (groupPut numbers out .out)
-host-write-group numbers out = (one, one, one, one, one)
+pub host-write-group : (numbers : List ℤ) (out : List ℕ) (stood : ℕ)
+    → One (groupPut numbers out .answer .no)
+    × One (setAt (groupPut numbers out .answer .no) (groupPut numbers out .answer .length) stood)
+    × One (groupPut numbers out .answer .line) × One (groupPut numbers out .answer .field) × One (groupPut numbers out .out)
+host-write-group numbers out stood = (one, one, one, one, one)
 
 pub host-start : (settings : List ℤ)
     → One (startNo settings) × One (laid (settingNumbers atStart) settings)
 host-start settings = (one, one)
 
-pub host-step : (settings : List ℤ) (arrival : ℕ) (line : List ℕ) (out : List ℕ)
-    → One (stepped settings arrival line out .answer .no) × One (stepped settings arrival line out .answer .length)
+pub host-step : (settings : List ℤ) (arrival : ℕ) (line : List ℕ) (out : List ℕ) (stood : ℕ)
+    → One (stepped settings arrival line out .answer .no)
+    × One (setAt (stepped settings arrival line out .answer .no) (stepped settings arrival line out .answer .length) stood)
     × One (stepped settings arrival line out .answer .line) × One (stepped settings arrival line out .answer .field)
     × One (stepped settings arrival line out .numbers) × One (stepped settings arrival line out .out)
-host-step settings arrival line out = (one, one, one, one, one, one)
+host-step settings arrival line out stood = (one, one, one, one, one, one)
 
-pub host-counts : (settings : List ℤ)
-    → One (countsAt settings .no) × One (countsAt settings .gps) × One (countsAt settings .glonass)
-host-counts settings = (one, one, one)
+pub host-counts : (settings : List ℤ) (gps glonass : ℕ)
+    → One (countsAt settings .no) × One (setAt (countsAt settings .no) (countsAt settings .gps) gps)
+    × One (setAt (countsAt settings .no) (countsAt settings .glonass) glonass)
+    × One (countsAt settings .line) × One (countsAt settings .field)
+host-counts settings gps glonass = (one, one, one, one, one)

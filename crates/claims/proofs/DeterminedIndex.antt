@@ -9,7 +9,8 @@ use Rattle.index.specs.declared.Entry.{Entry}
 use Rattle.index.specs.Index.{entryBytes, entryOf, fits, origin, readIndex}
 use Rattle.index.specs.Answers.{addedIndex, foundIn, laidFor, leftAdded, leftIndex, listedFor, writtenIndex}
 use Rattle.index.specs.Places.{nextAt, scanOf}
-use Rattle.host.specs.Index.{entryWith, setAt}
+use Rattle.host.specs.Answer.{setAt}
+use Rattle.host.specs.Index.{entryWith}
 use Rattle.claims.proofs.Determined.{One, one}
 
 -- sevens

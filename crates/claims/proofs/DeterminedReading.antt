@@ -48,6 +48,7 @@ use Rattle.form.specs.declared.got.Got.{Got}
 use Rattle.form.specs.declared.got.GotInt.{GotInt}
 use Rattle.form_position.specs.declared.Position.{Position}
 use Rattle.form_date.specs.declared.dates.GotDate.{GotDate}
+use Rattle.host.specs.Answer.{singleLine}
 use Rattle.claims.proofs.Determined.{One, one, read}
 
 -- forms
@@ -292,5 +293,6 @@ pub read-pirtr : (out : List ℤ) (n : ℕ) (s p : List ℕ) → OneAnswer (pirt
 read-pirtr out n s p = answer _
 
 -- host
-pub host-refusal : (line : List ℕ) → One (refusalOf (readLine line) .no) × One (refusalOf (readLine line) .field)
-host-refusal line = (one, one)
+pub host-refusal : (line : List ℕ)
+    → One (refusalOf (readLine line) .no) × One (singleLine (refusalOf (readLine line) .no)) × One (refusalOf (readLine line) .field)
+host-refusal line = (one, one, one)

@@ -19,3 +19,4 @@ pub mod DeterminedHost
 pub mod DeterminedIndex
 pub mod DeterminedWords
 pub mod WrongNumbers
+pub mod Exported

@@ -1,3 +1,4 @@
+pub mod Answer
 pub mod Command
 pub mod Group
 pub mod Index

@@ -1,8 +1,10 @@
 // Groups of satellites as Rust or C reads and writes them, as 254 numbers.
+use crate::answers;
 use frame::Written;
 use sky::Whose;
 ghost use mathlib.Core.Path.{_≡_};
 ghost use Rattle.sky.specs.Group.{groupOf};
+ghost use Rattle.host.specs.Answer.{setAt};
 ghost use Rattle.host.specs.Group.{groupPut, handed};
 
 // Reads the lines in `s` as a group, and returns the number of its refusal, 0 where it is a whole sky. Then its
@@ -51,8 +53,8 @@ fn write_numbers(numbers: &[i64], out: &mut [u8]) -> Written
 }
 
 // Writes the group that `numbers` say into `out`, and returns the number of its refusal, 0 where it was written.
-// `length` is set to the length of what was written, `line` and `field` to those of the refusal; each to 0 where
-// there is none. A refusal leaves `out`.
+// `length` is set to the length of what was written, `line` and `field` to those of the refusal, or to 0. A refusal leaves
+// `out` and `length`.
 #[no_mangle]
 pub extern "C" fn castanwel_write_group(
     numbers: &[i64],
@@ -62,13 +64,14 @@ pub extern "C" fn castanwel_write_group(
     field: &mut usize,
 ) -> u8
     ensures { λ r. ⌜ r ≡ groupPut (now (numbers .entry)) (now (out .entry)) .answer .no ⌝ }
-    ensures { λ _. ⌜ now (length .exit) ≡ groupPut (now (numbers .entry)) (now (out .entry)) .answer .length ⌝ }
+    ensures { λ _. ⌜ now (length .exit) ≡ setAt (groupPut (now (numbers .entry)) (now (out .entry)) .answer .no)
+        (groupPut (now (numbers .entry)) (now (out .entry)) .answer .length) (now (length .entry)) ⌝ }
     ensures { λ _. ⌜ now (line .exit) ≡ groupPut (now (numbers .entry)) (now (out .entry)) .answer .line ⌝ }
     ensures { λ _. ⌜ now (field .exit) ≡ groupPut (now (numbers .entry)) (now (out .entry)) .answer .field ⌝ }
     ensures { λ _. ⌜ now (out .exit) ≡ groupPut (now (numbers .entry)) (now (out .entry)) .out ⌝ }
 {
     let written = write_numbers(numbers, out);
-    *length = written.length;
+    *length = answers::kept(written.no, written.length, *length);
     *line = written.line;
     *field = written.field;
     written.no

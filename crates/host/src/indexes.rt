@@ -1,11 +1,13 @@
 // The index beside a log as Rust or C keeps it: its bytes, and its entries as numbers of 64 bits, three an entry. Each
 // function returns the number of its refusal, or 0, and sets `line` and `field` to those of the refusal, which are 0.
+use crate::answers;
 use index::Entry;
 ghost use mathlib.Core.Path.{_≡_};
 ghost use lib.ListN.{length};
 ghost use Rattle.index.specs.Index.{readIndex};
 ghost use Rattle.index.specs.Answers.{writtenIndex, leftIndex, listedFor, laidFor, addedIndex, leftAdded, foundIn};
-ghost use Rattle.host.specs.Index.{setAt, entryWith};
+ghost use Rattle.host.specs.Answer.{setAt};
+ghost use Rattle.host.specs.Index.{entryWith};
 
 // Writes the index of `entries` into `out` and sets `size` to its length. Refused: 5 where the numbers are not threes or
 // an entry is out of range or order; then 8. A refusal leaves `out` and `size`.
@@ -27,7 +29,7 @@ pub extern "C" fn castanwel_index_write(
     let written = index::writing::write(entries, out);
     *line = written.line;
     *field = written.field;
-    *size = kept(written.no, written.length, *size);
+    *size = answers::kept(written.no, written.length, *size);
     written.no
 }
 
@@ -51,7 +53,7 @@ pub extern "C" fn castanwel_index_read(
     let listed = index::reading::read(index, entries);
     *line = listed.line;
     *field = listed.field;
-    *count = kept(listed.no, listed.count, *count);
+    *count = answers::kept(listed.no, listed.count, *count);
     listed.no
 }
 
@@ -84,7 +86,7 @@ pub extern "C" fn castanwel_index_add(
     let written = index::writing::add(index, used, e);
     *line = written.line;
     *field = written.field;
-    *after = kept(written.no, written.length, *after);
+    *after = answers::kept(written.no, written.length, *after);
     written.no
 }
 
@@ -110,20 +112,7 @@ pub extern "C" fn castanwel_index_find(
     let found = index::reading::find(index, number);
     *line = found.line;
     *field = found.field;
-    *offset = kept_wide(found.no, found.offset, *offset);
-    *size = kept_wide(found.no, found.length, *size);
+    *offset = answers::kept_wide(found.no, found.offset, *offset);
+    *size = answers::kept_wide(found.no, found.length, *size);
     found.no
-}
-
-// `value`, where nothing was refused; else what stood there.
-fn kept(no: u8, value: usize, stood: usize) -> usize
-    ensures { λ r. ⌜ r ≡ setAt no value stood ⌝ }
-{
-    if no == 0 { value } else { stood }
-}
-
-fn kept_wide(no: u8, value: u64, stood: u64) -> u64
-    ensures { λ r. ⌜ r ≡ setAt no value stood ⌝ }
-{
-    if no == 0 { value } else { stood }
 }

@@ -1,4 +1,5 @@
 // The library's functions as Rust or C calls them, on numbers and lent bytes.
+mod answers;
 pub mod commands;
 pub mod groups;
 pub mod indexes;
@@ -10,6 +11,7 @@ ghost use Rattle.finder.specs.Finder.{heldNext, endsHere};
 ghost use Rattle.finder.specs.Slice.{foundAt};
 ghost use Rattle.fields.specs.Places.{Placed};
 ghost use Rattle.sentence.specs.Lines.{readLine, refusalOf};
+ghost use Rattle.host.specs.Answer.{singleLine};
 
 // What the line rule says of `line`: 0 where it is a line, 1 where the rule fails, 2 where the two
 // digits differ from the XOR of the body.
@@ -60,15 +62,17 @@ pub extern "C" fn castanwel_places(body: &[u8], ends: &mut [usize]) -> usize
     fields::places(body, ends)
 }
 
-// Reads `line` to its record, and returns the number of its refusal, 0 where it reads. `field` is set to
-// the field of the refusal, or to 0 where it has none.
+// Reads `line` to its record, and returns the number of its refusal, 0 where it reads. `at_line` is set to its line, 1, and
+// `field` to its field; each to 0 where there is none.
 #[no_mangle]
-pub extern "C" fn castanwel_refusal(line: &[u8], field: &mut usize) -> u8
+pub extern "C" fn castanwel_refusal(line: &[u8], at_line: &mut usize, field: &mut usize) -> u8
     ensures { λ r. ⌜ r ≡ refusalOf (readLine (now (line .entry))) .no ⌝ }
+    ensures { λ _. ⌜ now («at_line» .exit) ≡ singleLine (refusalOf (readLine (now (line .entry))) .no) ⌝ }
     ensures { λ _. ⌜ now (field .exit) ≡ refusalOf (readLine (now (line .entry))) .field ⌝ }
 {
     let mut n = [0i64; 33];
     let told = sentence::read(line, &mut n);
+    *at_line = answers::single_line(told.no);
     *field = told.field;
     told.no
 }

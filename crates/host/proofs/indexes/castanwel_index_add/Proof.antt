@@ -1,12 +1,10 @@
 -- The results are the fields of the answer.
 use mathlib.Core.Path.{_∙_, ap}
-use Rattle.host.specs.Index.{setAt}
+use Rattle.host.specs.Answer.{setAt}
 use borrow.Author.Needs.{needs}
 use Rattle.host.proofs.indexes.castanwel_index_add.Statement.{statement}
 use Rattle.host.proofs.indexes.castanwel_index_add.Tie as tie
-use Rattle.host.proofs.indexes.castanwel_index_add.Reads as reads
-use Rattle.host.proofs.indexes.castanwel_index_add.Lts as lts
-use Rattle.host.proofs.indexes.kept.Reads as kept-reads
+use Rattle.host.proofs.answers.kept.Reads as kept-reads
 use Rattle.index.proofs.writing.add.Reads as add-reads
 
 -- src/indexes.rt:81:9

@@ -1,12 +1,10 @@
 -- The results are the fields of what was found.
 use mathlib.Core.Path.{_∙_, ap}
-use Rattle.host.specs.Index.{setAt}
+use Rattle.host.specs.Answer.{setAt}
 use borrow.Author.Needs.{needs}
 use Rattle.host.proofs.indexes.castanwel_index_find.Statement.{statement}
 use Rattle.host.proofs.indexes.castanwel_index_find.Tie as tie
-use Rattle.host.proofs.indexes.castanwel_index_find.Reads as reads
-use Rattle.host.proofs.indexes.castanwel_index_find.Lts as lts
-use Rattle.host.proofs.indexes.kept_wide.Reads as kept-wide-reads
+use Rattle.host.proofs.answers.kept_wide.Reads as kept-wide-reads
 use Rattle.index.proofs.reading.find.Reads as find-reads
 
 -- src/indexes.rt:105:9

@@ -1,12 +1,10 @@
 -- The results are the fields of the reader's answer.
 use mathlib.Core.Path.{_∙_, ap}
-use Rattle.host.specs.Index.{setAt}
+use Rattle.host.specs.Answer.{setAt}
 use borrow.Author.Needs.{needs}
 use Rattle.host.proofs.indexes.castanwel_index_read.Statement.{statement}
 use Rattle.host.proofs.indexes.castanwel_index_read.Tie as tie
-use Rattle.host.proofs.indexes.castanwel_index_read.Reads as reads
-use Rattle.host.proofs.indexes.castanwel_index_read.Lts as lts
-use Rattle.host.proofs.indexes.kept.Reads as kept-reads
+use Rattle.host.proofs.answers.kept.Reads as kept-reads
 use Rattle.index.proofs.reading.read.Reads as read-reads
 
 -- src/indexes.rt:49:9

@@ -1,12 +1,10 @@
 -- The results are the fields of the writer's answer.
 use mathlib.Core.Path.{_∙_, ap}
-use Rattle.host.specs.Index.{setAt}
+use Rattle.host.specs.Answer.{setAt}
 use borrow.Author.Needs.{needs}
 use Rattle.host.proofs.indexes.castanwel_index_write.Statement.{statement}
 use Rattle.host.proofs.indexes.castanwel_index_write.Tie as tie
-use Rattle.host.proofs.indexes.castanwel_index_write.Reads as reads
-use Rattle.host.proofs.indexes.castanwel_index_write.Lts as lts
-use Rattle.host.proofs.indexes.kept.Reads as kept-reads
+use Rattle.host.proofs.answers.kept.Reads as kept-reads
 use Rattle.index.proofs.writing.write.Reads as write-reads
 
 -- src/indexes.rt:26:9

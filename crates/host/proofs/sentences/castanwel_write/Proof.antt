@@ -1,13 +1,22 @@
--- `castanwel_write` meets its contract: its results are the fields of the writer's answer.
-use mathlib.Core.Path.{ap}
+-- `castanwel_write` meets its contract: its results are the parts of the writer's answer.
+use mathlib.Core.Path.{_∙_, ap}
+use Rattle.frame.specs.declared.Written.{Written}
+use Rattle.host.specs.Answer.{setAt}
 use borrow.Author.Needs.{needs}
 use Rattle.host.proofs.sentences.castanwel_write.Statement.{statement}
 use Rattle.host.proofs.sentences.castanwel_write.Tie as tie
 
 returns : tie.Need-returns
 returns c =
-    let e = c .before .before .write .ensures in
-    (ap (λ w. w .no) (e .0), (ap (λ w. w .length) (e .0), (ap (λ w. w .line) (e .0), (ap (λ w. w .field) (e .0), e .1))))
+    let b = c .before .before .before .before in
+    let e = b .write .ensures in
+    let stood = b .before .before .before .args .length .now in (
+      ap (λ (w : Written). w .no) (e .0),
+      (
+        c .kept .ensures ∙ ap (λ (w : Written). setAt (w .no) (w .length) stood) (e .0),
+        (ap (λ (w : Written). w .line) (e .0), (ap (λ (w : Written). w .field) (e .0), e .1)),
+      ),
+    )
 
 pub castanwel-write-spec : {M : Type 1} → statement M
-castanwel-write-spec = tie.close (tie.spec (λ c κs. search needs) (λ c. search needs) returns)
+castanwel-write-spec = tie.close (tie.spec (λ c κs. search needs) (λ c κs. search needs) (λ c. search needs) returns)

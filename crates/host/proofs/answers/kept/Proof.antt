@@ -1,15 +1,11 @@
--- By the test of the definition.
+-- `kept` meets its contract, by the test of the definition.
 use borrow.Author.Tests.{eq-eqb, ne-eqb}
-use Rattle.host.proofs.indexes.kept.Statement.{statement}
-use Rattle.host.proofs.indexes.kept.Tie as tie
-use Rattle.host.proofs.indexes.kept.Reads as reads
-use Rattle.host.proofs.indexes.kept.Lts as lts
+use Rattle.host.proofs.answers.kept.Statement.{statement}
+use Rattle.host.proofs.answers.kept.Tie as tie
 
--- src/indexes.rt:114:1
 returns : tie.Need-returns
 returns c = rw (eq-eqb (c .before .args .no) 0 (c .if1 .taken))
 
--- src/indexes.rt:114:1
 returns-2 : tie.Need-returns-2
 returns-2 c = rw (ne-eqb (c .before .args .no) 0 (c .if1 .left))
 
