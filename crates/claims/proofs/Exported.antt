@@ -1,5 +1,5 @@
--- Point 1 of the functions that a host calls: a refusal leaves every lent number and byte but the places of the refusal, which are its number,
--- its line and its field. Each is said of what the function's own contract says.
+-- Point 1 of the functions that a host calls: a refusal leaves every lent number and byte but the places of the refusal, which are its
+-- number, its line and its field. Each is said of what the function's own contract says.
 use Prim.Native.Nat.{ℕ}
 use mathlib.Core.Path.{_≡_, refl}
 use mathlib.Core.Bool.{Bool, cond, false, true}

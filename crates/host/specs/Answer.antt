@@ -1,5 +1,5 @@
--- What a host is answered. A number that is lent for an answer is set where nothing was refused, and left where something was; the places of the
--- refusal, its number, line and field, are always set.
+-- What a host is answered. A number that is lent for an answer is set where nothing was refused, and left where something was; the places
+-- of the refusal, its number, line and field, are always set.
 use Prim.Native.Nat.{ℕ}
 use mathlib.Core.Bool.{_||_, cond}
 use lib.Dec.{eqb}
