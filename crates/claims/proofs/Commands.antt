@@ -85,7 +85,7 @@ pub record SameButPort (n : ℕ) (s t : Settings) : Type 0 where
   pub glonass : t .glonass ≡ s .glonass
   pub code : t .code ≡ s .code
 
-same-all : (n : ℕ) (s : Settings) → SameButPort n s s
+pub same-all : (n : ℕ) (s : Settings) → SameButPort n s s
 same-all n s = record { other = λ m h. refl; datum = refl; zone = refl; gps = refl; glonass = refl; code = refl }
 
 same-with : (n : ℕ) (s : Settings) (p : Port) → SameButPort n s (withPort s n p)

@@ -1,7 +1,7 @@
 -- Point 1 of the functions that a host calls: a refusal leaves every lent number and byte but the places of the refusal, which are its
 -- number, its line and its field. Each is said of what the function's own contract says.
 use Prim.Native.Nat.{ℕ}
-use mathlib.Core.Path.{_≡_, refl}
+use mathlib.Core.Path.{_≡_, ap, refl}
 use mathlib.Core.Bool.{Bool, cond, false, true}
 use mathlib.Core.List.{List}
 use native.Mathlib.Omega.{arith}
@@ -24,6 +24,10 @@ use Rattle.sentence.specs.Lines.{readLine}
 use Rattle.sentence.specs.ToHost.{laidFor, toldFor}
 use Rattle.sentence_laws.proofs.HostBack.{refusal-leaves}
 use Rattle.sentence_laws.proofs.Refusals.{line-numbered, Numbered}
+use Rattle.lines.specs.Caught.{Caught}
+use Rattle.lines.specs.Cut.{cutLines}
+use Rattle.lines.specs.Edit.{OneByte}
+use Rattle.sky.proofs.Damage.{damage-caught}
 use Rattle.sky.specs.Group as G
 use Rattle.sky.specs.Group.{groupOf}
 use Rattle.sky.specs.Sky.{tableOf}
@@ -125,3 +129,19 @@ pub counts-leaves : (settings : List ℤ) (gps glonass : ℕ) → (countsAt sett
     → (setAt (countsAt settings .no) (countsAt settings .gps) gps ≡ gps)
     × (setAt (countsAt settings .no) (countsAt settings .glonass) glonass ≡ glonass)
 counts-leaves settings gps glonass h = (place-left _ _ gps h, place-left _ _ glonass h)
+
+-- Point 3 of what reading a group answers: one byte changed, dropped or added anywhere in the bytes of a whole group, and the host is told 1 or
+-- 2 at the first line that is new or no longer as it was, with its numbers as they were.
+pub group-damage-told : {g h : List ℕ} (t : Talker) (es : List Entry) → OneByte g h → groupOf g ≡ G.whole t es → (numbers : List ℤ)
+    → Caught (λ n k f. record { no = n; line = k; field = f; numbers = numbers }) (cutLines g) (cutLines h) (handed (groupOf h) numbers)
+group-damage-told t es one e numbers =
+    let c = damage-caught t es one e in
+    record {
+      line = c .line;
+      first = c .first;
+      counted = c .counted;
+      no = c .no;
+      of-rule = c .of-rule;
+      one-or-two = c .one-or-two;
+      answers = ap (λ (a : G.Answer). handed a numbers) (c .answers);
+    }

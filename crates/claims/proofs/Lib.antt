@@ -20,3 +20,5 @@ pub mod DeterminedIndex
 pub mod DeterminedWords
 pub mod WrongNumbers
 pub mod Exported
+pub mod Alone
+pub mod ReadAgain
