@@ -22,3 +22,5 @@ pub mod WrongNumbers
 pub mod Exported
 pub mod Alone
 pub mod ReadAgain
+pub mod SkyAgain
+pub mod AllOrNone
