@@ -113,6 +113,7 @@ extern "C" {
 /// assert_eq!(castanwel::line_refusal(b"$GPGSV,1,1,00*78\r\n").unwrap().number, 2);
 /// ```
 pub fn line_refusal(line: &[u8]) -> Option<Refusal> {
+    // SAFETY: pointer and length are of one slice that lives through the call; the places are this function's own.
     let number = unsafe { castanwel_line_refusal(line.as_ptr(), line.len()) };
     refused(number, 1, 0).err()
 }
@@ -127,6 +128,7 @@ pub fn line_refusal(line: &[u8]) -> Option<Refusal> {
 /// ```
 pub fn next_line(s: &[u8], at: usize) -> (bool, usize, usize) {
     let (mut start, mut end) = (0, 0);
+    // SAFETY: pointer and length are of one slice that lives through the call; the places are this function's own.
     let found = unsafe { castanwel_next_line(s.as_ptr(), s.len(), at, &mut start, &mut end) };
     (found, start, end)
 }
@@ -140,6 +142,7 @@ pub fn next_line(s: &[u8], at: usize) -> (bool, usize, usize) {
 /// ```
 pub fn feed(held: usize, b: u8) -> (usize, usize) {
     let mut line = 0;
+    // SAFETY: pointer and length are of one slice that lives through the call; the places are this function's own.
     let held = unsafe { castanwel_feed(held, b, &mut line) };
     (held, line)
 }
@@ -153,6 +156,7 @@ pub fn feed(held: usize, b: u8) -> (usize, usize) {
 /// assert_eq!(ends, [5, 7, 9, 12]);
 /// ```
 pub fn places(body: &[u8], ends: &mut [usize]) -> usize {
+    // SAFETY: pointer and length are of one slice that lives through the call; the places are this function's own.
     unsafe { castanwel_places(body.as_ptr(), body.len(), ends.as_mut_ptr(), ends.len()) }
 }
 
@@ -165,6 +169,7 @@ pub fn places(body: &[u8], ends: &mut [usize]) -> usize {
 /// ```
 pub fn refusal(line: &[u8]) -> Option<Refusal> {
     let (mut at_line, mut field) = (0, 0);
+    // SAFETY: pointer and length are of one slice that lives through the call; the places are this function's own.
     let number = unsafe { castanwel_refusal(line.as_ptr(), line.len(), &mut at_line, &mut field) };
     refused(number, at_line, field).err()
 }
@@ -181,6 +186,7 @@ pub fn read(line: &[u8], numbers: &mut [i64]) -> Result<u32, Refusal> {
     let (mut kind, mut at_line, mut field) = (0, 0, 0);
     let (pointer, room) = (numbers.as_mut_ptr(), numbers.len());
     let number =
+        // SAFETY: pointer and length are of one slice that lives through the call; the places are this function's own.
         unsafe { castanwel_read(line.as_ptr(), line.len(), pointer, room, &mut kind, &mut at_line, &mut field) };
     refused(number, at_line, field)?;
     Ok(kind)
@@ -198,6 +204,7 @@ pub fn read(line: &[u8], numbers: &mut [i64]) -> Result<u32, Refusal> {
 pub fn write(kind: u32, numbers: &[i64], out: &mut [u8]) -> Result<usize, Refusal> {
     let (mut length, mut line, mut field) = (0, 0, 0);
     let (pointer, room) = (out.as_mut_ptr(), out.len());
+    // SAFETY: pointer and length are of one slice that lives through the call; the places are this function's own.
     let number = unsafe {
         castanwel_write(kind, numbers.as_ptr(), numbers.len(), pointer, room, &mut length, &mut line, &mut field)
     };
@@ -214,6 +221,7 @@ pub fn write(kind: u32, numbers: &[i64], out: &mut [u8]) -> Result<usize, Refusa
 /// ```
 pub fn read_group(s: &[u8], numbers: &mut [i64]) -> Result<(), Refusal> {
     let (mut line, mut field) = (0, 0);
+    // SAFETY: pointer and length are of one slice that lives through the call; the places are this function's own.
     let number = unsafe {
         castanwel_read_group(s.as_ptr(), s.len(), numbers.as_mut_ptr(), numbers.len(), &mut line, &mut field)
     };
@@ -233,6 +241,7 @@ pub fn read_group(s: &[u8], numbers: &mut [i64]) -> Result<(), Refusal> {
 pub fn write_group(numbers: &[i64], out: &mut [u8]) -> Result<usize, Refusal> {
     let (mut length, mut line, mut field) = (0, 0, 0);
     let (pointer, room) = (out.as_mut_ptr(), out.len());
+    // SAFETY: pointer and length are of one slice that lives through the call; the places are this function's own.
     let number = unsafe {
         castanwel_write_group(numbers.as_ptr(), numbers.len(), pointer, room, &mut length, &mut line, &mut field)
     };
@@ -249,6 +258,7 @@ pub fn write_group(numbers: &[i64], out: &mut [u8]) -> Result<usize, Refusal> {
 /// ```
 pub fn start(settings: &mut [i64]) -> Result<(), Refusal> {
     let (mut line, mut field) = (0, 0);
+    // SAFETY: pointer and length are of one slice that lives through the call; the places are this function's own.
     let number = unsafe { castanwel_start(settings.as_mut_ptr(), settings.len(), &mut line, &mut field) };
     refused(number, line, field)
 }
@@ -266,6 +276,7 @@ pub fn start(settings: &mut [i64]) -> Result<(), Refusal> {
 /// ```
 pub fn step(settings: &mut [i64], arrival: u32, line: &[u8], out: &mut [u8]) -> Result<usize, Refusal> {
     let (mut length, mut at_line, mut field) = (0, 0, 0);
+    // SAFETY: pointer and length are of one slice that lives through the call; the places are this function's own.
     let number = unsafe {
         castanwel_step(
             settings.as_mut_ptr(),
@@ -294,6 +305,7 @@ pub fn step(settings: &mut [i64], arrival: u32, line: &[u8], out: &mut [u8]) -> 
 pub fn counts(settings: &[i64]) -> Result<(u32, u32), Refusal> {
     let (mut gps, mut glonass, mut line, mut field) = (0, 0, 0, 0);
     let (pointer, count) = (settings.as_ptr(), settings.len());
+    // SAFETY: pointer and length are of one slice that lives through the call; the places are this function's own.
     let number = unsafe { castanwel_counts(pointer, count, &mut gps, &mut glonass, &mut line, &mut field) };
     refused(number, line, field)?;
     Ok((gps, glonass))
@@ -311,6 +323,7 @@ pub fn counts(settings: &[i64]) -> Result<(u32, u32), Refusal> {
 pub fn index_write(entries: &[u64], out: &mut [u8]) -> Result<usize, Refusal> {
     let (mut length, mut line, mut field) = (0, 0, 0);
     let (pointer, room) = (out.as_mut_ptr(), out.len());
+    // SAFETY: pointer and length are of one slice that lives through the call; the places are this function's own.
     let number = unsafe {
         castanwel_index_write(entries.as_ptr(), entries.len(), pointer, room, &mut length, &mut line, &mut field)
     };
@@ -331,6 +344,7 @@ pub fn index_read(index: &[u8], entries: &mut [u64]) -> Result<usize, Refusal> {
     let (mut count, mut line, mut field) = (0, 0, 0);
     let (pointer, room) = (entries.as_mut_ptr(), entries.len());
     let number =
+        // SAFETY: pointer and length are of one slice that lives through the call; the places are this function's own.
         unsafe { castanwel_index_read(index.as_ptr(), index.len(), pointer, room, &mut count, &mut line, &mut field) };
     refused(number, line, field)?;
     Ok(count)
@@ -349,6 +363,7 @@ pub fn index_add(index: &mut [u8], used: usize, number: u64, offset: u64, length
     let (mut after, mut line, mut field) = (0, 0, 0);
     let (pointer, room) = (index.as_mut_ptr(), index.len());
     let refusal =
+        // SAFETY: pointer and length are of one slice that lives through the call; the places are this function's own.
         unsafe { castanwel_index_add(pointer, room, used, number, offset, length, &mut after, &mut line, &mut field) };
     refused(refusal, line, field)?;
     Ok(after)
@@ -364,6 +379,7 @@ pub fn index_add(index: &mut [u8], used: usize, number: u64, offset: u64, length
 /// ```
 pub fn index_find(index: &[u8], number: u64) -> Result<(u64, u64), Refusal> {
     let (mut offset, mut length, mut line, mut field) = (0, 0, 0, 0);
+    // SAFETY: pointer and length are of one slice that lives through the call; the places are this function's own.
     let refusal = unsafe {
         let (pointer, size) = (index.as_ptr(), index.len());
         castanwel_index_find(pointer, size, number, &mut offset, &mut length, &mut line, &mut field)

@@ -7,7 +7,7 @@ use std::fmt;
 ///
 /// The line is 1 for a single line, and 0 where none is to blame: a table of too many satellites, settings out of range, an index. The
 /// field is counted from 1 after the address, and is 0 where none is named.
-#[derive(Clone, Copy, Debug, PartialEq, Eq)]
+#[derive(Clone, Copy, Debug, PartialEq, Eq, Hash)]
 pub struct Refusal {
     /// From 1 to 12; [`Refusal::meaning`] has each in words.
     pub number: u8,

@@ -7,6 +7,8 @@ use crate::records::{CodeAsked, CodeTold, DatumAsked, DatumTold, MasksAsked, Mas
 use crate::records::{Gga, Gll, Gsa, Gsv, Rmc, Vtg, Zda};
 use crate::refusal::Refusal;
 use crate::walk::{cells_of, put_up, take_down, Cursor, Walk};
+use crate::LONGEST;
+use std::fmt;
 
 /// Whose receiver a sentence comes from.
 #[derive(Clone, Copy, Debug, Default, PartialEq, Eq, Hash)]
@@ -253,4 +255,29 @@ pub fn write(sentence: &Sentence, out: &mut [u8]) -> Result<usize, Refusal> {
     let mut numbers = [0; RECORD];
     let count = take_down(*sentence, &mut numbers);
     ffi::write(sentence.kind().number(), &numbers[..count], out)
+}
+
+/// As [`read`].
+///
+/// ```
+/// let sentence = castanwel::Sentence::try_from(b"$GPGSV,1,1,00*79\r\n".as_slice()).unwrap();
+/// assert_eq!(sentence.to_string(), "$GPGSV,1,1,00*79");
+/// ```
+impl TryFrom<&[u8]> for Sentence {
+    type Error = Refusal;
+
+    fn try_from(line: &[u8]) -> Result<Sentence, Refusal> {
+        read(line)
+    }
+}
+
+/// The line of the sentence without its CR LF; where it cannot be written, the refusal in words.
+impl fmt::Display for Sentence {
+    fn fmt(&self, f: &mut fmt::Formatter<'_>) -> fmt::Result {
+        let mut out = [0; LONGEST];
+        match write(self, &mut out) {
+            Ok(length) => f.write_str(String::from_utf8_lossy(&out[..length]).trim_end()),
+            Err(refusal) => write!(f, "({} cannot be written: {})", self.address(), refusal),
+        }
+    }
 }

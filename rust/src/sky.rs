@@ -6,6 +6,8 @@ use crate::records::Entry;
 use crate::refusal::Refusal;
 use crate::sentence::Talker;
 use crate::walk::{cells_of, in_order, put_up, take_down};
+use crate::LONGEST;
+use std::fmt;
 
 in_order! {
     /// Satellites in order; blank by default.
@@ -104,4 +106,29 @@ pub fn write_group(sky: &Sky, out: &mut [u8]) -> Result<usize, Refusal> {
     let mut numbers = [0; GROUP];
     take_down(*sky, &mut numbers);
     ffi::write_group(&numbers, out)
+}
+
+/// As [`read_group`].
+///
+/// ```
+/// let sky = castanwel::Sky::try_from(b"$GPGSV,1,1,01,05,,,*7D\r\n".as_slice()).unwrap();
+/// assert_eq!(sky.to_string(), "$GPGSV,1,1,01,05,,,*7D");
+/// ```
+impl TryFrom<&[u8]> for Sky {
+    type Error = Refusal;
+
+    fn try_from(bytes: &[u8]) -> Result<Sky, Refusal> {
+        read_group(bytes)
+    }
+}
+
+/// The lines of the group, with LF between them; where it cannot be written, the refusal in words.
+impl fmt::Display for Sky {
+    fn fmt(&self, f: &mut fmt::Formatter<'_>) -> fmt::Result {
+        let mut out = [0; 9 * LONGEST];
+        match write_group(self, &mut out) {
+            Ok(length) => f.write_str(String::from_utf8_lossy(&out[..length]).replace("\r\n", "\n").trim_end()),
+            Err(refusal) => write!(f, "(the sky of {} cannot be written: {})", self.talker.word(), refusal),
+        }
+    }
 }

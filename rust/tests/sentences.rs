@@ -166,3 +166,19 @@ fn each_talker() {
         assert_eq!(read(&out[..length]), Ok(sentence));
     }
 }
+
+#[test]
+fn a_sentence_prints_as_its_line_and_comes_from_it() {
+    for (line, expected) in samples() {
+        match Sentence::try_from(line.as_slice()) {
+            Ok(sentence) => {
+                assert!(expected.starts_with("ok"));
+                let printed = format!("{}\r\n", sentence);
+                assert_eq!(Sentence::try_from(printed.as_bytes()), Ok(sentence), "{}", printed);
+            }
+            Err(refusal) => assert_eq!(expected, format!("refused {} {}", refusal.number, refusal.field)),
+        }
+    }
+    let wrong = Sentence::Pirea(castanwel::CodeTold { code: 256 });
+    assert_eq!(wrong.to_string(), format!("(PIREA cannot be written: {})", write(&wrong, &mut [0; LONGEST]).unwrap_err()));
+}

@@ -139,3 +139,14 @@ fn slices_of_numbers_that_are_too_short_and_talkers_that_there_are_not() {
         assert_eq!(numbers::write_group(&numbers, &mut [0; ROOM]), Err(Refusal { number: 3, line: 0, field: 0 }));
     }
 }
+
+#[test]
+fn a_sky_prints_as_its_lines_and_comes_from_them() {
+    let group = b"$GPGSV,2,1,05,02,10,104,33,05,60,017,47,12,33,201,40,25,04,310,*7A\r\n$GPGSV,2,2,05,29,71,048,53*4B\r\n";
+    let sky = castanwel::Sky::try_from(group.as_slice()).unwrap();
+    assert_eq!(format!("{}\n", sky).replace('\n', "\r\n").as_bytes(), group);
+    assert_eq!(castanwel::Sky::try_from(&group[..70]).unwrap_err(), castanwel::read_group(&group[..70]).unwrap_err());
+    let five = castanwel::Entry { number: 5, ..castanwel::Entry::default() };
+    let twice = castanwel::Sky { talker: castanwel::Talker::Gp, table: castanwel::Table::of(&[five, five]) };
+    assert!(twice.to_string().starts_with("(the sky of GP cannot be written: refusal 7"), "{}", twice);
+}
