@@ -337,3 +337,15 @@ fn write_group() {
     let twice = Sky { talker: Talker::Gp, table: Table::of(&[five, five]) };
     assert_eq!(castanwel::write_group(&twice, &mut out).unwrap_err().number, 7);
 }
+
+#[test]
+fn sentence_from_bytes() {
+    let sentence = castanwel::Sentence::try_from(b"$GPGSV,1,1,00*79\r\n".as_slice()).unwrap();
+    assert_eq!(sentence.to_string(), "$GPGSV,1,1,00*79");
+}
+
+#[test]
+fn sky_from_bytes() {
+    let sky = castanwel::Sky::try_from(b"$GPGSV,1,1,01,05,,,*7D\r\n".as_slice()).unwrap();
+    assert_eq!(sky.to_string(), "$GPGSV,1,1,01,05,,,*7D");
+}
