@@ -47,7 +47,8 @@ sided-empty plus minus f u o = go (eqb (length f) 0) (eqb (length u) 0) refl ref
     answer : Bool → Bool → GotInt
     answer a b = pick a (pick b missingInt (wrongInt 2 false)) (letteredOf plus minus u o)
 
-    go : (a b : Bool) → eqb (length f) 0 ≡ a → eqb (length u) 0 ≡ b → answer a b .wrong ≡ 0 → answer a b .there ≡ false → (f ≡ []) × (u ≡ [])
+    go : (a b : Bool) → eqb (length f) 0 ≡ a → eqb (length u) 0 ≡ b → answer a b .wrong ≡ 0 → answer a b .there ≡ false
+        → (f ≡ []) × (u ≡ [])
     go true true p q w t = (empty f p, empty u q)
     go true false p q w t = let i : ⊥ = omega (arith, w) in absurd i
     go false b p q w t = absurd (true≢false (sym (lettered-there plus minus u o) ∙ t))

@@ -130,8 +130,8 @@ pub counts-leaves : (settings : List ℤ) (gps glonass : ℕ) → (countsAt sett
     × (setAt (countsAt settings .no) (countsAt settings .glonass) glonass ≡ glonass)
 counts-leaves settings gps glonass h = (place-left _ _ gps h, place-left _ _ glonass h)
 
--- Point 3 of what reading a group answers: one byte changed, dropped or added anywhere in the bytes of a whole group, and the host is told 1 or
--- 2 at the first line that is new or no longer as it was, with its numbers as they were.
+-- Point 3 of what reading a group answers: one byte changed, dropped or added anywhere in the bytes of a whole group, and the host is told
+-- 1 or 2 at the first line that is new or no longer as it was, with its numbers as they were.
 pub group-damage-told : {g h : List ℕ} (t : Talker) (es : List Entry) → OneByte g h → groupOf g ≡ G.whole t es → (numbers : List ℤ)
     → Caught (λ n k f. record { no = n; line = k; field = f; numbers = numbers }) (cutLines g) (cutLines h) (handed (groupOf h) numbers)
 group-damage-told t es one e numbers =

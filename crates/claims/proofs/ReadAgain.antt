@@ -164,7 +164,8 @@ no-over (S.Zda t r) w h rest = over-none 7 _ refl
 no-over (S.Pr r) w h rest = over-none 8 _ refl
 no-over (S.Tr r) w h rest = over-none 9 _ refl
 no-over (S.Sr r) w h rest =
-    over-none 10 _ (rw (mask-whole (r .gps .value) (and-true _ _ (pirsr-fits r (w .0)) .0)) (and-no (isThere (pos (markOf (r .gps .there))))))
+    over-none 10 _
+    (rw (mask-whole (r .gps .value) (and-true _ _ (pirsr-fits r (w .0)) .0)) (and-no (isThere (pos (markOf (r .gps .there))))))
 no-over S.Er w h rest = over-none 11 _ refl
 no-over (S.Pa r) w h rest = over-none 12 _ refl
 no-over (S.Ta r) w h rest = over-none 13 _ refl

@@ -1,4 +1,5 @@
--- A group read to numbers and written from them is the same bytes: what was read is in range, so 32 bits hold it, and the numbers say it again.
+-- A group read to numbers and written from them is the same bytes: what was read is in range, so 32 bits hold it, and the numbers say it
+-- again.
 use Prim.Native.Nat.{_-_, _≤_, suc, zero, ℕ}
 use mathlib.Core.Path.{_∙_, _≡_, ap, refl}
 use mathlib.Core.Bool.{true}
@@ -58,6 +59,6 @@ group-again g t es e numbers h out room =
     let r = WriteRead.told g t es e .0 in
     let put = ap (λ (a : G.Answer). groupPut (handed a numbers .numbers) out) e
     ∙ put-back t (tableOf es) (table-places es r) (table-held es r) numbers h out in
-    let same = group-same-bytes g t es e {out = out} {answer = writtenGroup t (tableOf es) (length out)} {left = leftGroup t (tableOf es) out}
-    room (record { answers = refl; leaves = refl }) in
+    let same = group-same-bytes g t es e {out = out} {answer = writtenGroup t (tableOf es) (length out)}
+    {left = leftGroup t (tableOf es) out} room (record { answers = refl; leaves = refl }) in
     (ap (λ (x : Put). x .answer) put ∙ same .0, ap (λ (x : Put). take (length g) (x .out)) put ∙ same .1)
