@@ -101,7 +101,8 @@ pub extern "C" fn castanwel_counts(
     field: &mut usize,
 ) -> u8
     ensures { λ r. ⌜ r ≡ countsAt (now (settings .entry)) .no ⌝ }
-    ensures { λ _. ⌜ now (gps .exit) ≡ setAt (countsAt (now (settings .entry)) .no) (countsAt (now (settings .entry)) .gps) (now (gps .entry)) ⌝ }
+    ensures { λ _. ⌜ now (gps .exit) ≡ setAt (countsAt (now (settings .entry)) .no)
+        (countsAt (now (settings .entry)) .gps) (now (gps .entry)) ⌝ }
     ensures { λ _. ⌜ now (glonass .exit) ≡ setAt (countsAt (now (settings .entry)) .no)
         (countsAt (now (settings .entry)) .glonass) (now (glonass .entry)) ⌝ }
     ensures { λ _. ⌜ now (line .exit) ≡ countsAt (now (settings .entry)) .line ⌝ }

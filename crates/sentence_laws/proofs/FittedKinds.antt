@@ -85,7 +85,8 @@ use Rattle.kind_rmc.specs.Row.{rmcLayout}
 use Rattle.kind_vtg.specs.Row.{vtgLayout}
 use Rattle.kind_zda.specs.Row.{zdaLayout}
 use Rattle.sentence_laws.proofs.Fitted.{_⊕_, blank-held, both, Fitted, fitted-depending, fitted-measured, fitted-one, letter-held}
-use Rattle.sentence_laws.proofs.Fitted.{outside-held, place-held, port-held, range-held, signed-held, six-held, three-held, true-zero}
+use Rattle.sentence_laws.proofs.Fitted.{outside-held, place-held, port-held, range-held}
+use Rattle.sentence_laws.proofs.Fitted.{signed-held, six-held, three-held, true-zero}
 
 -- The forms that several kinds have.
 time-fits : Fitted (one time)

@@ -35,8 +35,10 @@ use Rattle.kind_vtg.specs.Row.{vtgLayout}
 use Rattle.kind_zda.specs.Row.{zdaLayout}
 use Rattle.sentence.specs.Back.{addressAt, addressed, knownOf, recordAt}
 use Rattle.sentence.proofs.Numbered.{enough}
-use Rattle.sentence_laws.proofs.LawfulLayouts.{lawful-gga, lawful-gll, lawful-gsa, lawful-gsv, lawful-pirea, lawful-pirpa, lawful-pirpr}
-use Rattle.sentence_laws.proofs.LawfulLayouts.{lawful-pirsa, lawful-pirsr, lawful-pirta, lawful-pirtr, lawful-rmc, lawful-vtg, lawful-zda}
+use Rattle.sentence_laws.proofs.LawfulLayouts.{lawful-gga, lawful-gll, lawful-gsa}
+use Rattle.sentence_laws.proofs.LawfulLayouts.{lawful-gsv, lawful-pirea, lawful-pirpa, lawful-pirpr}
+use Rattle.sentence_laws.proofs.LawfulLayouts.{lawful-pirsa, lawful-pirsr, lawful-pirta}
+use Rattle.sentence_laws.proofs.LawfulLayouts.{lawful-pirtr, lawful-rmc, lawful-vtg, lawful-zda}
 use Rattle.sentence_laws.proofs.LawfulLayouts.{maker-back, maker-long, standard-back, standard-first, standard-long}
 
 -- What a record is as the library holds it: twelve satellites, four entries, and values of 32 bits; a refused line has none.

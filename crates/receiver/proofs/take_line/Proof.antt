@@ -52,7 +52,8 @@ returns-4 c =
     subst (λ (x : Sentence). Does (a .s) (sentenceOutcome (a .s) (a .arrival) x) (a .out .now) (satellites .result)
     (satellites .last .1 .1 .0))
     (ap S.Sr (b4 .at3 .ensures)
-    ∙ sym (line-masks (a .line .now) _ refl (b10 .read .result) _ (b10 .read .ensures) (b7 .if1 .left) (b6 .match .keys3))) (satellites .ensures)
+    ∙ sym (line-masks (a .line .now) _ refl (b10 .read .result) _ (b10 .read .ensures) (b7 .if1 .left)
+    (b6 .match .keys3))) (satellites .ensures)
 
 returns-5 : tie.Need-returns-5
 returns-5 c =
