@@ -32,11 +32,10 @@ fn sum(s: &[u8]) -> u64 {
     }
 }
 
-/// The same of what the proved reader hands over.
-fn sum_by_rattle(s: &[u8]) -> u64 {
-    let mut numbers = [0; rattle::GROUP];
-    let (no, line, field) = rattle::read_group(s, &mut numbers);
-    made(&numbers);
+/// The same of what the proved reader hands over. The numbers are lent as they stand.
+fn sum_by_rattle(s: &[u8], numbers: &mut [i64; rattle::GROUP]) -> u64 {
+    let (no, line, field) = rattle::read_group(s, numbers);
+    made(numbers);
     if no > 0 {
         return 1_000_000 * u64::from(no) + 1_000 * line as u64 + field as u64;
     }
@@ -47,12 +46,13 @@ fn sum_by_rattle(s: &[u8]) -> u64 {
     })
 }
 
-fn all(groups: &[Vec<u8>], sum: impl Fn(&[u8]) -> u64) -> u64 {
+fn all(groups: &[Vec<u8>], mut sum: impl FnMut(&[u8]) -> u64) -> u64 {
     groups.iter().fold(0, |n, g| n * 31 % 1_000_003 + sum(g))
 }
 
 pub fn all_by_rattle(groups: &[Vec<u8>]) -> u64 {
-    all(groups, sum_by_rattle)
+    let mut numbers = [0; rattle::GROUP];
+    all(groups, |s| sum_by_rattle(s, &mut numbers))
 }
 
 pub fn all_by_rust(groups: &[Vec<u8>]) -> u64 {
@@ -61,14 +61,14 @@ pub fn all_by_rust(groups: &[Vec<u8>]) -> u64 {
 
 /// Both sides say the same of each group, of each with a byte changed, and of each without its last line.
 pub fn agree(groups: &[Vec<u8>]) {
-    let (mut whole, mut r) = (0, Random::new(5));
+    let (mut whole, mut r, mut numbers) = (0, Random::new(5), [0; rattle::GROUP]);
     for g in groups {
         let mut hurt = g.clone();
         let at = r.below(g.len() as u64) as usize;
         hurt[at] ^= 1 << r.below(7);
         let last = g[..g.len() - 1].iter().rposition(|&b| b == b'\n').map_or(0, |i| i + 1);
         for s in [&g[..], &hurt[..], &g[..last], &[&g[..], &g[..]].concat()[..]] {
-            assert_eq!(sum_by_rattle(s), sum(s), "group {:?}", String::from_utf8_lossy(s));
+            assert_eq!(sum_by_rattle(s, &mut numbers), sum(s), "group {:?}", String::from_utf8_lossy(s));
             whole += usize::from(sum(s) < 1_000_000);
         }
     }

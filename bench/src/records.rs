@@ -40,16 +40,17 @@ fn read(line: &[u8]) -> (u8, usize) {
     }
 }
 
-fn all(lines: &[&[u8]], read: impl Fn(&[u8]) -> (u8, usize)) -> u64 {
+fn all(lines: &[&[u8]], mut read: impl FnMut(&[u8]) -> (u8, usize)) -> u64 {
     lines.iter().fold(0, |sum, line| {
         let (no, field) = read(line);
         sum * 31 % 1_000_003 + u64::from(no) * 32 + field as u64
     })
 }
 
+/// The numbers are lent as the line before left them.
 pub fn all_by_rattle(lines: &[&[u8]]) -> u64 {
+    let mut record = rattle::Numbers::new();
     all(lines, |line| {
-        let mut record = rattle::Numbers::new();
         let answer = rattle::read(line, &mut record);
         made(&record);
         answer

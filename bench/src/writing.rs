@@ -31,20 +31,19 @@ fn write_times(line: &[u8], out: &mut [u8], times: usize) -> usize {
     length
 }
 
-/// The same by the proved reader and writer.
-fn write_times_by_rattle(line: &[u8], out: &mut [u8], times: usize) -> usize {
-    let mut record = rattle::Numbers::new();
+/// The same by the proved reader and writer, by way of numbers that are lent as they stand.
+fn write_times_by_rattle(line: &[u8], record: &mut rattle::Numbers, out: &mut [u8], times: usize) -> usize {
     let mut length = 0;
-    if rattle::read(line, &mut record).0 == 0 {
+    if rattle::read(line, record).0 == 0 {
         for i in 0..times {
             let k = if i % 2 < out.len() { i % 2 } else { 0 };
-            length = rattle::write(&record, &mut out[k..]);
+            length = rattle::write(record, &mut out[k..]);
         }
     }
     length
 }
 
-fn all(lines: &[&[u8]], times: usize, write_times: impl Fn(&[u8], &mut [u8], usize) -> usize) -> u64 {
+fn all(lines: &[&[u8]], times: usize, mut write_times: impl FnMut(&[u8], &mut [u8], usize) -> usize) -> u64 {
     let mut out = [0; 84];
     lines.iter().fold(0, |sum, line| {
         let n = write_times(line, &mut out, times);
@@ -54,7 +53,8 @@ fn all(lines: &[&[u8]], times: usize, write_times: impl Fn(&[u8], &mut [u8], usi
 
 /// Over lines that were chosen for it, each record `TIMES` times.
 pub fn all_by_rattle(lines: &[&[u8]]) -> u64 {
-    all(lines, TIMES, write_times_by_rattle)
+    let mut record = rattle::Numbers::new();
+    all(lines, TIMES, |line, out, times| write_times_by_rattle(line, &mut record, out, times))
 }
 
 pub fn all_by_rust(lines: &[&[u8]]) -> u64 {
@@ -63,7 +63,8 @@ pub fn all_by_rust(lines: &[&[u8]]) -> u64 {
 
 /// The same with each line read and its record written once.
 pub fn each_by_rattle(lines: &[&[u8]]) -> u64 {
-    all(lines, 1, write_times_by_rattle)
+    let mut record = rattle::Numbers::new();
+    all(lines, 1, |line, out, times| write_times_by_rattle(line, &mut record, out, times))
 }
 
 pub fn each_by_rust(lines: &[&[u8]]) -> u64 {
@@ -78,13 +79,17 @@ pub fn size(lines: &[&[u8]]) -> (usize, usize) {
 
 /// The same where it is written once.
 pub fn size_each(lines: &[&[u8]]) -> (usize, usize) {
-    (lines.iter().map(|l| write_times_by_rattle(l, &mut [0; 84], 1)).sum(), lines.len())
+    (lines.iter().map(|l| written_once(l, &mut [0; 84])).sum(), lines.len())
+}
+
+fn written_once(line: &[u8], out: &mut [u8]) -> usize {
+    write_times_by_rattle(line, &mut rattle::Numbers::new(), out, 1)
 }
 
 /// What each side writes of a line and leaves in an output of so many bytes.
 fn both(line: &[u8], room: usize, times: usize) -> usize {
     let (mut one, mut two) = ([0xaa; 100], [0xaa; 100]);
-    let n = write_times_by_rattle(line, &mut one[..room], times);
+    let n = write_times_by_rattle(line, &mut rattle::Numbers::new(), &mut one[..room], times);
     let m = write_times(line, &mut two[..room], times);
     assert_eq!((n, &one[..]), (m, &two[..]), "writing {:?} to {} bytes", String::from_utf8_lossy(line), room);
     n
@@ -100,7 +105,7 @@ pub fn agree(lines: &[&[u8]]) {
             assert_eq!(both(line, room, 1), 0);
         }
         let mut out = [0; 100];
-        write_times_by_rattle(line, &mut out, 1);
+        written_once(line, &mut out);
         written += usize::from(n > 0);
         too_long += usize::from(n == 0);
         same += usize::from(&out[..n] == *line);
@@ -110,7 +115,7 @@ pub fn agree(lines: &[&[u8]]) {
 
 /// Some of the lines whose records can be written, from all over the log.
 pub fn chosen<'a>(lines: &[&'a [u8]]) -> Vec<&'a [u8]> {
-    let good: Vec<&[u8]> = lines.iter().copied().filter(|l| write_times_by_rattle(l, &mut [0; 84], 1) > 0).collect();
+    let good: Vec<&[u8]> = lines.iter().copied().filter(|l| written_once(l, &mut [0; 84]) > 0).collect();
     let step = (good.len() / LINES).max(1);
     good.iter().copied().step_by(step).cycle().take(LINES).collect()
 }

@@ -9,7 +9,8 @@ use lib.ListN.{length, getD, set, replicate, List·getD-eq-default}
 use lib.Seq.{sets, length-sets, getD-set-other}
 use borrow.Author.Tests.{ltb-true, ltb-false}
 use Rattle.fields.specs.Fields.{fieldsOf}
-use Rattle.fields.specs.Places.{endsFrom, fieldIn, fieldsBy, theFields}
+use Rattle.line.specs.Ends.{endsFrom}
+use Rattle.fields.specs.Places.{fieldIn, fieldsBy, theFields}
 use Rattle.fields.proofs.Splitting.{First, first-field, ends-count}
 use Rattle.fields.proofs.Placing.{placed-field, no-place, not-past}
 

@@ -3,3 +3,4 @@ pub mod Placing
 pub mod Refusing
 pub mod Joining
 pub mod AllFields
+pub mod Passing

@@ -1,5 +1,4 @@
--- The ends of the fields, stored one after another: each byte of the body is one step of the stores, and field k by the stored ends is
--- the kth of the fields.
+-- The ends of the fields, stored one after another: field k by the stored ends is the kth of the fields.
 use Prim.Native.Nat.{ℕ, zero, suc, _+_, _-_, _≤_, _<_}
 use mathlib.Core.Path.{_≡_, refl, _∙_, ap}
 use mathlib.Core.List.{List, [], _∷_}
@@ -10,43 +9,9 @@ use lib.ListN.{length, getD, take, drop, set, length-set, drop-of-length-le}
 use lib.Seq.{drop-cons, sets, length-sets, getD-set-same, getD-set-other}
 use borrow.Author.Tests.{eq-eqb, ne-eqb, lt-ltb, le-ltb, le-leb, lt-leb}
 use Rattle.fields.specs.Fields.{fieldsOf, startOf}
-use Rattle.fields.specs.Places.{endsFrom, startIn, isIn, fieldIn, placeIn}
+use Rattle.line.specs.Ends.{endsFrom}
+use Rattle.fields.specs.Places.{startIn, isIn, fieldIn, placeIn}
 use Rattle.fields.proofs.Splitting.{ends-count, field-at}
-
--- one byte of the body, at place i, with n ends stored in p
-module _ (p : List ℕ) (n : ℕ) (s : List ℕ) (i : ℕ) where
-  abbrev left : List ℕ
-  left = endsFrom i (drop i s)
-
-  module _ (h : i < length s) where
-    ends-comma : getD s i 0 ≡ 44 → left ≡ i ∷ endsFrom (i + 1) (drop (i + 1) s)
-    unfolding endsFrom
-    ends-comma e = rw (drop-cons s i 0 h, eq-eqb (getD s i 0) 44 e, add-one i)
-
-    ends-other : (getD s i 0 ≡ 44 → ⊥) → left ≡ endsFrom (i + 1) (drop (i + 1) s)
-    unfolding endsFrom
-    ends-other e = rw (drop-cons s i 0 h, ne-eqb (getD s i 0) 44 e, add-one i)
-
-    pub count-comma : getD s i 0 ≡ 44 → length left ≡ suc (length (endsFrom (i + 1) (drop (i + 1) s)))
-    count-comma e = ap length (ends-comma e)
-
-    pub count-other : (getD s i 0 ≡ 44 → ⊥) → length left ≡ length (endsFrom (i + 1) (drop (i + 1) s))
-    count-other e = ap length (ends-other e)
-
-    pub store-comma : getD s i 0 ≡ 44 → sets p n left ≡ sets (set p n i) (n + 1) (endsFrom (i + 1) (drop (i + 1) s))
-    store-comma e = rw (ends-comma e, add-one n)
-
-    pub store-other : (getD s i 0 ≡ 44 → ⊥) → sets p n left ≡ sets p n (endsFrom (i + 1) (drop (i + 1) s))
-    store-other e = ap (sets p n) (ends-other e)
-
-  module _ (h : length s ≤ i) where
-    pub count-end : length left ≡ 1
-    unfolding endsFrom
-    count-end = rw (drop-of-length-le s h)
-
-    pub store-end : sets p n left ≡ set p n i
-    unfolding endsFrom
-    store-end = rw (drop-of-length-le s h)
 
 -- what is stored, at each place
 stored-before : (p : List ℕ) (n : ℕ) (vs : List ℕ) (j : ℕ) → j < n → getD (sets p n vs) j 0 ≡ getD p j 0

@@ -14,7 +14,8 @@ use Rattle.line.proofs.Laws.{body-part}
 use Rattle.address.specs.declared.Address.{Address}
 use Rattle.address.specs.Address.{addressOf}
 use Rattle.fields.specs.Fields.{fieldsOf, startOf}
-use Rattle.fields.specs.Places.{endsFrom, fieldIn, placeIn}
+use Rattle.line.specs.Ends.{endsFrom}
+use Rattle.fields.specs.Places.{fieldIn, placeIn}
 use Rattle.fields.specs.FieldN.{unknownNo, addressRefusal, fieldNo, fieldBytes, fieldPlace}
 use Rattle.fields.proofs.Splitting.{fields-most}
 use Rattle.fields.proofs.Placing.{placed-field, placed-place}

@@ -8,7 +8,7 @@ use native.Mathlib.Omega.{arith}
 use lib.ListN.{length, getD, take, drop}
 use lib.Dec.{eqb}
 use Rattle.fields.specs.Fields.{onto, fieldsOf, startOf}
-use Rattle.fields.specs.Places.{endsFrom}
+use Rattle.line.specs.Ends.{endsFrom}
 
 -- There is always a first field.
 abbrev pub First : List (List ℕ) → Type 0

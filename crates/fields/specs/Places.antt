@@ -6,12 +6,8 @@ use mathlib.Core.Bool.{Bool, cond, _&&_}
 use lib.ListN.{length, getD, take, drop}
 use lib.Seq.{sets}
 use lib.Dec.{ltb, leb, eqb}
+use Rattle.line.specs.Ends.{endsFrom}
 use Rattle.fields.specs.Fields.{fieldsOf}
-
--- The ends of the fields of s, whose first byte has place i.
-unfoldable pub endsFrom : ℕ → List ℕ → List ℕ
-endsFrom i [] = i ∷ []
-endsFrom i (b ∷ s) = cond (eqb b 44) (i ∷ endsFrom (i + 1) s) (endsFrom (i + 1) s)
 
 -- What finding the places of s leaves: the number of fields, and in the lent places the ends, one after another from the first
 -- on, as far as there is room; the others stay.

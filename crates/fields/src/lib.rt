@@ -1,19 +1,9 @@
 // The fields of a line's body, and field n of a line.
 use address::Address;
 ghost use mathlib.Core.Path.{_≡_};
-ghost use lib.ListN.{set};
 ghost use Rattle.fields.specs.Places.{Placed, fieldIn, placeIn};
 ghost use Rattle.fields.specs.Part.{PartAt};
 ghost use Rattle.fields.specs.FieldN.{addressRefusal, fieldNo, fieldBytes, fieldPlace};
-
-// Stores `i` at place `n` of `p`, if it has one.
-fn mark(p: &mut [usize], n: usize, i: usize)
-    ensures { λ _. ⌜ now (p .exit) ≡ set (now (p .entry)) n i ⌝ }
-{
-    if n < p.len() {
-        p[n] = i;
-    }
-}
 
 // How many fields the body `s` has. The place where each ends is stored in `p`, one after another,
 // as far as there is room.
@@ -25,13 +15,11 @@ pub fn places(s: &[u8], p: &mut [usize]) -> usize
     let mut n: usize = 0;
     let mut i: usize = 0;
     while i < s.len() {
-        if s[i] == b',' {
-            mark(p, n, i);
-            n += 1;
-        }
+        line::store(p, n, i);
+        n += (s[i] == b',') as usize;
         i += 1;
     }
-    mark(p, n, i);
+    line::store(p, n, i);
     n + 1
 }
 

@@ -14,8 +14,9 @@ use borrow.Author.Tests.{eqb-true, eq-eqb, leb-true, le-leb}
 use Rattle.digits.specs.Hex.{hexDigit, hexOf}
 use Rattle.digits.proofs.Bools.{and-left, and-right, and-both, true-false, pick-first, pick-second, no}
 use Rattle.digits.proofs.HexLaws.{hex-is}
-use Rattle.line.specs.Line.{bodyByte, bodyBytes, xorFrom, xorOf, bodyOf, endOf, endForm, lineForm, endGives, lineRefusal, lineWith}
-use Rattle.line.specs.Line.{asLine}
+use Rattle.line.specs.Line.{bodyByte, bodyBytes, xorFrom, xorOf, bodyOf, edgeForm, endOf, endForm, lineForm, endGives, lineRefusal}
+use Rattle.line.specs.Line.{asLine, lineWith}
+use Rattle.line.proofs.Laws.{edges-seven}
 
 -- A body that a line can have: allowed bytes, 1 to 76 of them.
 pub record Body (s : List ℕ) : Type 0 where
@@ -68,17 +69,17 @@ end-formed t h f =
     record { high = and-left _ _ f1; low = and-left _ _ f2; whole = five t h ∙ rw (star, cr, lf) }
 
 pub formed : (l : List ℕ) → lineForm l ≡ true → Formed l
-unfolding lineForm
+unfolding lineForm edgeForm
 formed l f =
-    let f1 = and-right (leb 7 (length l)) _ f in
+    let f0 = and-left (edgeForm l) _ f in
+    let f1 = and-right (leb 7 (length l)) _ f0 in
     let f2 = and-right (leb (length l) 82) _ f1 in
-    let f3 = and-right (eqb (getD l 0 0) 36) _ f2 in
-    let seven = leb-true 7 (length l) (and-left _ _ f) in
+    let seven = leb-true 7 (length l) (and-left _ _ f0) in
     let most = leb-true (length l) 82 (and-left _ _ f1) in
-    let t = end-formed (endOf l) (end-five l seven) (and-left (endForm (endOf l)) _ f3) in
+    let t = end-formed (endOf l) (end-five l seven) (and-right (eqb (getD l 0 0) 36) _ f2) in
     record {
       body = record {
-        good = and-right (endForm (endOf l)) _ f3;
+        good = and-right (edgeForm l) _ f;
         some = simp (length-take, length-drop) (omega arith);
         room = simp (length-take, length-drop) (omega arith);
       };
@@ -104,7 +105,7 @@ module _ (body : List ℕ) (d e : ℕ) where
       rw k (drop-at body tail (length body) refl)
 
   pub form-of : Body body → hexDigit d ≡ true → hexDigit e ≡ true → lineForm (lineWith body d e) ≡ true
-  unfolding lineForm endForm
+  unfolding lineForm edgeForm endForm
   form-of b h l =
       let lo : leb 7 (length (lineWith body d e)) ≡ true = le-leb 7 (length (lineWith body d e)) (omega (arith, with-length, b .some)) in
       let hi : leb (length (lineWith body d e)) 82 ≡ true = le-leb (length (lineWith body d e)) 82 (omega (arith, with-length, b .room)) in
@@ -191,7 +192,10 @@ unfolding lineRefusal
 line-answer l =
     answer-pick (lineForm l) _ 1 (answer-pick (endGives (xorOf (bodyOf l)) (endOf l)) 0 2 (inl refl) (inr (inr refl))) (inr (inl refl))
 
--- What passes has at least 7 bytes.
-pub passes-long : (l : List ℕ) → lineRefusal l ≡ 0 → 7 ≤ length l
+-- What passes has the edges of a line, and so at least 7 bytes.
+pub passes-edges : (l : List ℕ) → lineRefusal l ≡ 0 → edgeForm l ≡ true
 unfolding lineRefusal lineForm
-passes-long l e = leb-true 7 (length l) (and-left _ _ (pick-first (lineForm l) _ 1 0 (omega arith) e .0))
+passes-edges l e = and-left (edgeForm l) _ (pick-first (lineForm l) _ 1 0 (omega arith) e .0)
+
+pub passes-long : (l : List ℕ) → lineRefusal l ≡ 0 → 7 ≤ length l
+passes-long l e = edges-seven l (passes-edges l e)

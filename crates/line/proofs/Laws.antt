@@ -1,46 +1,63 @@
 -- Laws of the line rule as the code meets it: one for each way out, and one for each byte of a body.
 use Prim.Native.Nat.{ℕ, _+_, _-_, _≤_, _<_}
 use mathlib.Core.Path.{_≡_, sym}
-use mathlib.Core.List.{List}
+use mathlib.Core.List.{[], List}
 use mathlib.Core.Bool.{Bool, true, false, cond, _&&_}
 use native.Mathlib.Omega.{arith}
 use native.Mathlib.Numerals.{add-one}
 use lib.ListN.{length, getD, take, drop, drop-of-length-le}
 use lib.Seq.{drop-cons}
 use lib.Bits.{bitXor}
-use borrow.Author.Tests.{eq-eqb, ne-eqb, le-leb, lt-leb}
-use Rattle.digits.proofs.Bools.{and-assoc, and-true}
-use Rattle.line.specs.Line.{bodyByte, bodyBytes, xorFrom, xorOf, bodyOf, endOf, endForm, lineForm, endGives, lineRefusal}
+use borrow.Author.Tests.{eq-eqb, ne-eqb, le-leb, leb-true, lt-leb}
+use Rattle.digits.proofs.Bools.{and-assoc, and-left, and-true}
+use Rattle.line.specs.Line.{bodyByte, bodyBytes, xorFrom, xorOf, bodyOf, edgeForm, endOf, endForm, lineForm, endGives, lineRefusal}
+use Rattle.line.specs.Ends.{endsFrom, endsIn}
 
--- the ways out of the rule, in the code's order
+-- the ways out of the edges, in the code's order
 module _ (l : List ℕ) where
-  pub line-short : length l < 7 → lineRefusal l ≡ 1
-  unfolding lineRefusal lineForm
-  line-short h = simp (lt-leb 7 (length l) h)
+  pub edges-short : length l < 7 → edgeForm l ≡ false
+  unfolding edgeForm
+  edges-short h = simp (lt-leb 7 (length l) h)
 
   module _ (h : 7 ≤ length l) where
-    pub line-long : 82 < length l → lineRefusal l ≡ 1
-    unfolding lineRefusal lineForm
-    line-long k = simp (le-leb 7 (length l) h, lt-leb (length l) 82 k)
+    pub edges-long : 82 < length l → edgeForm l ≡ false
+    unfolding edgeForm
+    edges-long k = simp (le-leb 7 (length l) h, lt-leb (length l) 82 k)
 
     module _ (k : length l ≤ 82) where
-      pub line-other : (getD l 0 0 ≡ 36 → ⊥) → lineRefusal l ≡ 1
-      unfolding lineRefusal lineForm
-      line-other n = simp (le-leb 7 (length l) h, le-leb (length l) 82 k, ne-eqb (getD l 0 0) 36 n)
+      pub edges-other : (getD l 0 0 ≡ 36 → ⊥) → edgeForm l ≡ false
+      unfolding edgeForm
+      edges-other n = simp (le-leb 7 (length l) h, le-leb (length l) 82 k, ne-eqb (getD l 0 0) 36 n)
 
-      module _ (d : getD l 0 0 ≡ 36) where
-        pub line-no-end : endForm (endOf l) ≡ false → lineRefusal l ≡ 1
-        unfolding lineRefusal lineForm
-        line-no-end e = simp (le-leb 7 (length l) h, le-leb (length l) 82 k, eq-eqb (getD l 0 0) 36 d, e)
+      pub edges-end : getD l 0 0 ≡ 36 → edgeForm l ≡ endForm (endOf l)
+      unfolding edgeForm
+      edges-end d = simp (le-leb 7 (length l) h, le-leb (length l) 82 k, eq-eqb (getD l 0 0) 36 d)
 
-        module _ (e : endForm (endOf l) ≡ true) where
-          pub line-bad : bodyBytes (bodyOf l) ≡ false → lineRefusal l ≡ 1
-          unfolding lineRefusal lineForm
-          line-bad g = simp (le-leb 7 (length l) h, le-leb (length l) 82 k, eq-eqb (getD l 0 0) 36 d, e, g)
+  pub edges-seven : edgeForm l ≡ true → 7 ≤ length l
+  unfolding edgeForm
+  edges-seven e = leb-true 7 (length l) (and-left _ _ e)
 
-          pub line-digits : bodyBytes (bodyOf l) ≡ true → lineRefusal l ≡ cond (endGives (xorOf (bodyOf l)) (endOf l)) 0 2
-          unfolding lineRefusal lineForm
-          line-digits g = simp (le-leb 7 (length l) h, le-leb (length l) 82 k, eq-eqb (getD l 0 0) 36 d, e, g)
+-- what the edges leave to the body and the digits, and the ends of its fields
+module _ (l : List ℕ) (e : edgeForm l ≡ false) where
+  pub line-no-edges : lineRefusal l ≡ 1
+  unfolding lineRefusal lineForm
+  line-no-edges = rw e
+
+  pub ends-none : endsIn l ≡ []
+  unfolding endsIn
+  ends-none = rw e
+
+module _ (l : List ℕ) (e : edgeForm l ≡ true) where
+  pub line-edges : lineRefusal l ≡ cond (bodyBytes (bodyOf l)) (cond (endGives (xorOf (bodyOf l)) (endOf l)) 0 2) 1
+  unfolding lineRefusal lineForm
+  line-edges = rw e
+
+  pub ends-there : endsIn l ≡ endsFrom 0 (bodyOf l)
+  unfolding endsIn
+  ends-there = rw e
+
+pub line-short : (l : List ℕ) → length l < 7 → lineRefusal l ≡ 1
+line-short l h = line-no-edges l (edges-short l h)
 
 -- one byte of a body, at place i
 module _ (s : List ℕ) (i : ℕ) (h : i < length s) where

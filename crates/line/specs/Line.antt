@@ -40,8 +40,12 @@ endOf l = drop (length l - 5) l
 unfoldable pub endForm : List ℕ → Bool
 endForm t = eqb (getD t 0 0) 42 && (hexDigit (getD t 1 0) && (hexDigit (getD t 2 0) && (eqb (getD t 3 0) 13 && eqb (getD t 4 0) 10)))
 
+-- The edges of a line: its length, the `$` and its end; and all of its form.
+unfoldable pub edgeForm : List ℕ → Bool
+edgeForm l = leb 7 (length l) && (leb (length l) 82 && (eqb (getD l 0 0) 36 && endForm (endOf l)))
+
 unfoldable pub lineForm : List ℕ → Bool
-lineForm l = leb 7 (length l) && (leb (length l) 82 && (eqb (getD l 0 0) 36 && (endForm (endOf l) && bodyBytes (bodyOf l))))
+lineForm l = edgeForm l && bodyBytes (bodyOf l)
 
 -- The digits of an end give x, high half first.
 unfoldable pub endGives : ℕ → List ℕ → Bool

@@ -8,7 +8,8 @@ use address::Talker;
 use frame::Written;
 use numbers::Told;
 ghost use mathlib.Core.Path.{_≡_};
-ghost use Rattle.fields.specs.Places.{fieldsBy};
+ghost use lib.ListN.{replicate};
+ghost use Rattle.fields.specs.Places.{fieldsBy, Placed};
 ghost use Rattle.numbers.specs.Told.{Tells};
 ghost use Rattle.sentence.specs.Back.{addressAt, knownOf};
 ghost use Rattle.sentence.specs.FromHost.{leftAs, writtenAs};
@@ -48,12 +49,12 @@ fn maker(out: &mut [i64], k: Pir, n: usize, s: &[u8], p: &[usize]) -> Told
     }
 }
 
-// The body of a line. No kind has more than 19 fields after the address, so no more ends are kept.
-fn read_body(out: &mut [i64], s: &[u8]) -> Told
+// The body `s` of a line, by the number of its fields and the ends of up to 20 of them: no kind has more than 19
+// after the address.
+fn read_body(out: &mut [i64], s: &[u8], count: usize, ends: &[usize]) -> Told
+    requires { ⌜ Placed (now s) (replicate 20 0) count (now ends) ⌝ }
     ensures { λ r. ⌜ Tells (handed (readBody (now (s .entry))) (now (out .entry))) r (now (out .exit)) ⌝ }
 {
-    let mut ends = [0usize; 20];
-    let count = fields::places(s, &mut ends);
     let address = address::address_of(s);
     if 20 < count {
         return match address {
@@ -64,8 +65,8 @@ fn read_body(out: &mut [i64], s: &[u8]) -> Told
     }
     let n = count - 1;
     match address {
-        Address::Standard(t, k) => standard(out, t, k, n, s, &ends),
-        Address::Maker(k) => maker(out, k, n, s, &ends),
+        Address::Standard(t, k) => standard(out, t, k, n, s, ends),
+        Address::Maker(k) => maker(out, k, n, s, ends),
         Address::Unknown => numbers::refuse(3, 0),
     }
 }
@@ -79,12 +80,13 @@ pub fn read(line: &[u8], numbers: &mut [i64]) -> Told
     ensures { λ r. ⌜ r ≡ toldFor (readLine (now (line .entry))) (now (numbers .entry)) ⌝ }
     ensures { λ _. ⌜ now (numbers .exit) ≡ laidFor (readLine (now (line .entry))) (now (numbers .entry)) ⌝ }
 {
-    let no = line::line_refusal(line);
-    if no != 0 {
-        return numbers::refuse(no, 0);
+    let mut ends = [0usize; 20];
+    let passed = line::pass(line, &mut ends);
+    if passed.no != 0 {
+        return numbers::refuse(passed.no, 0);
     }
     let end = line.len() - 5;
-    read_body(numbers, &line[1..end])
+    read_body(numbers, &line[1..end], passed.count, &ends)
 }
 
 // How many numbers a kind has; 0 for PIRER, and for what is no kind.
