@@ -1,6 +1,7 @@
 //! The index by exhibit number that lies beside a log: for each exhibit the place of its line.
 
 use crate::ffi;
+use crate::ffi_index;
 use crate::finder::LONGEST;
 use crate::numbers::{ENTRY, ENTRY_BYTES};
 use crate::refusal::Refusal;
@@ -31,6 +32,7 @@ pub struct Index {
 
 /// Why there is no line of an exhibit.
 #[derive(Debug)]
+#[non_exhaustive]
 pub enum NoLine {
     /// No exhibit has the number.
     Refused(Refusal),
@@ -83,7 +85,7 @@ impl Index {
     pub fn from_bytes(bytes: impl Into<Vec<u8>>) -> Result<Index, Refusal> {
         let bytes = bytes.into();
         let mut numbers = vec![0; bytes.len()]; // A number takes a byte or more.
-        let count = ffi::index_read(&bytes, &mut numbers)?;
+        let count = ffi_index::index_read(&bytes, &mut numbers)?;
         let exhibit = |entry: &[u64]| Exhibit { number: entry[0], offset: entry[1], length: entry[2] };
         let entries = numbers[..ENTRY * count].chunks_exact(ENTRY).map(exhibit).collect();
         Ok(Index { bytes, entries })
@@ -101,7 +103,7 @@ impl Index {
     pub fn from_entries(entries: &[Exhibit]) -> Result<Index, Refusal> {
         let numbers: Vec<u64> = entries.iter().flat_map(|e| [e.number, e.offset, e.length]).collect();
         let mut bytes = vec![0; ENTRY_BYTES * entries.len()];
-        let length = ffi::index_write(&numbers, &mut bytes)?;
+        let length = ffi_index::index_write(&numbers, &mut bytes)?;
         bytes.truncate(length);
         Ok(Index { bytes, entries: entries.to_vec() })
     }
@@ -141,7 +143,7 @@ impl Index {
         let used = self.bytes.len();
         self.bytes.resize(used + ENTRY_BYTES, 0);
         let Exhibit { number, offset, length } = exhibit;
-        let added = ffi::index_add(&mut self.bytes, used, number, offset, length);
+        let added = ffi_index::index_add(&mut self.bytes, used, number, offset, length);
         self.bytes.truncate(*added.as_ref().unwrap_or(&used));
         added?;
         self.entries.push(exhibit);

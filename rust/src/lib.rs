@@ -23,6 +23,8 @@
 
 #[allow(unsafe_code)]
 mod ffi;
+#[allow(unsafe_code)]
+mod ffi_index;
 mod finder;
 mod index;
 pub mod numbers;
@@ -34,7 +36,7 @@ mod sky;
 mod values;
 mod walk;
 
-pub use ffi::{line_refusal, refusal};
+pub use ffi::{field, line_refusal, refusal};
 pub use finder::{lines, Finder, Lines, LONGEST};
 pub use index::{Exhibit, Index, NoLine};
 pub use receiver::{Counts, Done, Port, Settings};

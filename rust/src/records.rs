@@ -1,8 +1,9 @@
 //! One struct for the record of each kind. Its fields stand in the order of docs/LAYOUT.md, which is the order of its numbers. A record
-//! can hold values outside their ranges: the proved writer refuses it then, at the field of the first such value.
+//! can hold values outside their ranges: the proved writer refuses it then, at the field of the first such value. Only records that can be
+//! written with nothing sent have a default.
 
 use crate::values::{Date, Kmh, Knots, Mode, Number, Place, Selection, Signed, Status, Time, Zone};
-use crate::walk::{in_order, Cursor, Walk};
+use crate::walk::{in_order, Blank, Cursor, Walk};
 
 in_order! {
     /// GGA: a fix.
@@ -31,7 +32,7 @@ in_order! {
 
 in_order! {
     /// GLL: a position.
-    #[derive(Clone, Copy, Debug, Default, PartialEq, Eq, Hash)]
+    #[derive(Clone, Copy, Debug, PartialEq, Eq, Hash)]
     pub struct Gll {
         /// Position.
         pub place: Option<Place>,
@@ -46,7 +47,7 @@ in_order! {
 
 in_order! {
     /// GSA: the satellites in use.
-    #[derive(Clone, Copy, Debug, Default, PartialEq, Eq, Hash)]
+    #[derive(Clone, Copy, Debug, PartialEq, Eq, Hash)]
     pub struct Gsa {
         /// Selection of the fix, manual or automatic.
         pub selection: Selection,
@@ -80,7 +81,7 @@ in_order! {
 
 in_order! {
     /// GSV: one line of a satellite group.
-    #[derive(Clone, Copy, Debug, Default, PartialEq, Eq, Hash)]
+    #[derive(Clone, Copy, Debug, PartialEq, Eq, Hash)]
     pub struct Gsv {
         /// How many lines the group has, 1 to 9.
         pub lines: u32,
@@ -97,7 +98,7 @@ in_order! {
 
 in_order! {
     /// RMC: position, speed and date.
-    #[derive(Clone, Copy, Debug, Default, PartialEq, Eq, Hash)]
+    #[derive(Clone, Copy, Debug, PartialEq, Eq, Hash)]
     pub struct Rmc {
         /// Time of day.
         pub time: Option<Time>,
@@ -120,7 +121,7 @@ in_order! {
 
 in_order! {
     /// VTG: course and speed.
-    #[derive(Clone, Copy, Debug, Default, PartialEq, Eq, Hash)]
+    #[derive(Clone, Copy, Debug, PartialEq, Eq, Hash)]
     pub struct Vtg {
         /// True course, below 360 degrees.
         pub course: Option<Number>,
@@ -189,13 +190,19 @@ in_order! {
 #[derive(Clone, Copy, Debug, Default, PartialEq, Eq, Hash)]
 pub struct CodeAsked;
 
+impl Blank for CodeAsked {
+    fn blank() -> Self {
+        CodeAsked
+    }
+}
+
 impl Walk for CodeAsked {
     fn walk<C: Cursor>(&mut self, _: &mut C) {}
 }
 
 in_order! {
     /// PIRPA: what a port is set to.
-    #[derive(Clone, Copy, Debug, Default, PartialEq, Eq, Hash)]
+    #[derive(Clone, Copy, Debug, PartialEq, Eq, Hash)]
     pub struct PortTold {
         /// Port, 0 or 1.
         pub port: u32,
@@ -236,5 +243,70 @@ in_order! {
     pub struct CodeTold {
         /// Code, 0 to 255.
         pub code: u32,
+    }
+}
+
+impl Gll {
+    /// A record with this status and mode, and nothing else sent.
+    ///
+    /// ```
+    /// use castanwel::{Gll, Mode, Sentence, Status, Talker};
+    /// let none = Sentence::Gll(Talker::Gp, Gll::new(Status(b'V'), Mode(b'N')));
+    /// assert_eq!(none.to_string(), "$GPGLL,,,,,,V,N*64\r\n");
+    /// ```
+    pub fn new(status: Status, mode: Mode) -> Gll {
+        Gll { status, mode, ..Blank::blank() }
+    }
+}
+
+impl Gsa {
+    /// A record with this selection and fix, and nothing else sent.
+    ///
+    /// ```
+    /// use castanwel::{Gsa, Selection, Sentence, Talker};
+    /// let none = Sentence::Gsa(Talker::Gp, Gsa::new(Selection(b'A'), 1));
+    /// assert_eq!(none.to_string(), "$GPGSA,A,1,,,,,,,,,,,,,,,*1E\r\n");
+    /// ```
+    pub fn new(selection: Selection, fix: u32) -> Gsa {
+        Gsa { selection, fix, ..Blank::blank() }
+    }
+}
+
+impl Gsv {
+    /// A line of a group without satellites: of so many lines, which of them it is, and how many satellites are in view.
+    ///
+    /// ```
+    /// use castanwel::{Gsv, Sentence, Talker};
+    /// let none = Sentence::Gsv(Talker::Gp, Gsv::new(1, 1, 0));
+    /// assert_eq!(none.to_string(), "$GPGSV,1,1,00*79\r\n");
+    /// ```
+    pub fn new(lines: u32, line: u32, satellites: u32) -> Gsv {
+        Gsv { lines, line, satellites, ..Blank::blank() }
+    }
+}
+
+impl Rmc {
+    /// A record with this status and mode, and nothing else sent.
+    ///
+    /// ```
+    /// use castanwel::{Mode, Rmc, Sentence, Status, Talker};
+    /// let none = Sentence::Rmc(Talker::Gp, Rmc::new(Status(b'V'), Mode(b'N')));
+    /// assert_eq!(none.to_string(), "$GPRMC,,V,,,,,,,,,,N*53\r\n");
+    /// ```
+    pub fn new(status: Status, mode: Mode) -> Rmc {
+        Rmc { status, mode, ..Blank::blank() }
+    }
+}
+
+impl Vtg {
+    /// A record with this mode, and nothing else sent.
+    ///
+    /// ```
+    /// use castanwel::{Mode, Sentence, Talker, Vtg};
+    /// let none = Sentence::Vtg(Talker::Gp, Vtg::new(Mode(b'N')));
+    /// assert_eq!(none.to_string(), "$GPVTG,,T,,M,,N,,K,N*2C\r\n");
+    /// ```
+    pub fn new(mode: Mode) -> Vtg {
+        Vtg { mode, ..Blank::blank() }
     }
 }

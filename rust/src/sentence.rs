@@ -6,12 +6,13 @@ use crate::numbers::{Cell, RECORD};
 use crate::records::{CodeAsked, CodeTold, DatumAsked, DatumTold, MasksAsked, MasksTold, PortAsked, PortTold};
 use crate::records::{Gga, Gll, Gsa, Gsv, Rmc, Vtg, Zda};
 use crate::refusal::Refusal;
-use crate::walk::{cells_of, put_up, take_down, Cursor, Walk};
+use crate::walk::{cells_of, put_up, take_down, Blank, Cursor, Walk};
 use crate::LONGEST;
 use std::fmt;
 
 /// Whose receiver a sentence comes from.
 #[derive(Clone, Copy, Debug, Default, PartialEq, Eq, Hash)]
+#[non_exhaustive]
 pub enum Talker {
     /// GPS.
     #[default]
@@ -40,6 +41,12 @@ impl Talker {
     }
 }
 
+impl Blank for Talker {
+    fn blank() -> Self {
+        Talker::Gp
+    }
+}
+
 impl Walk for Talker {
     fn walk<C: Cursor>(&mut self, c: &mut C) {
         let number = usize::try_from(c.number(Cell::Plain, *self as i64)).unwrap_or(Talker::ALL.len());
@@ -52,6 +59,7 @@ macro_rules! sentences {
     ($($(#[$says:meta])* $name:ident [$($by:ident: $talker:ty)?] $record:ty, $number:literal, $word:literal;)*) => {
         /// The kind of a sentence.
         #[derive(Clone, Copy, Debug, PartialEq, Eq, Hash)]
+        #[non_exhaustive]
         pub enum Kind {
             $($(#[$says])* $name = $number,)*
         }
@@ -75,6 +83,7 @@ macro_rules! sentences {
 
         /// A sentence: its record, behind its talker where the kind has one.
         #[derive(Clone, Copy, Debug, PartialEq, Eq, Hash)]
+        #[non_exhaustive]
         pub enum Sentence {
             $($(#[$says])* $name($($talker,)? $record),)*
         }
@@ -83,7 +92,7 @@ macro_rules! sentences {
             /// A sentence of a kind that has nothing in it.
             fn blank(kind: Kind) -> Sentence {
                 match kind {
-                    $(Kind::$name => Sentence::$name($(<$talker>::default(),)? <$record>::default()),)*
+                    $(Kind::$name => Sentence::$name($(<$talker>::blank(),)? <$record>::blank()),)*
                 }
             }
 

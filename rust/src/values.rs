@@ -1,13 +1,19 @@
 //! The values of the records, each with its unit.
 
-use crate::walk::{in_order, Cursor, Walk};
+use crate::walk::{in_order, Blank, Cursor, Walk};
 
 /// Declares a unit: a struct around one number.
 macro_rules! unit {
     ($(#[$about:meta])* $name:ident($held:ty)) => {
         $(#[$about])*
-        #[derive(Clone, Copy, Debug, Default, PartialEq, Eq, PartialOrd, Ord, Hash)]
+        #[derive(Clone, Copy, Debug, PartialEq, Eq, PartialOrd, Ord, Hash)]
         pub struct $name(pub $held);
+
+        impl Blank for $name {
+            fn blank() -> Self {
+                $name(0)
+            }
+        }
 
         impl Walk for $name {
             fn walk<C: Cursor>(&mut self, c: &mut C) {
@@ -19,26 +25,31 @@ macro_rules! unit {
 
 unit! {
     /// A time of day in hundredths of a second.
+    #[derive(Default)]
     Time(u32)
 }
 
 unit! {
     /// A number in thousandths: a dilution of precision, a course in degrees, an age in seconds.
+    #[derive(Default)]
     Number(u32)
 }
 
 unit! {
     /// A number with a sign in thousandths: a height in metres, or a magnetic variation in degrees, east positive.
+    #[derive(Default)]
     Signed(i32)
 }
 
 unit! {
     /// A speed in thousandths of a knot.
+    #[derive(Default)]
     Knots(u32)
 }
 
 unit! {
     /// A speed in thousandths of a km/h. It is kept apart from knots, and neither is made of the other.
+    #[derive(Default)]
     Kmh(u32)
 }
 
@@ -70,7 +81,7 @@ in_order! {
 
 in_order! {
     /// A date of the years 1980 to 2079.
-    #[derive(Clone, Copy, Debug, Default, PartialEq, Eq, Hash)]
+    #[derive(Clone, Copy, Debug, PartialEq, Eq, Hash)]
     pub struct Date {
         /// From 1.
         pub day: u32,

@@ -13,6 +13,11 @@ pub(crate) trait Walk {
     fn walk<C: Cursor>(&mut self, c: &mut C);
 }
 
+/// What numbers are put into: a value that is missing, or whose numbers are all 0. It need not be one that can be written.
+pub(crate) trait Blank {
+    fn blank() -> Self;
+}
+
 impl Walk for u32 {
     fn walk<C: Cursor>(&mut self, c: &mut C) {
         *self = u32::try_from(c.number(Cell::Plain, i64::from(*self))).unwrap_or(u32::MAX);
@@ -33,10 +38,10 @@ impl Walk for u8 {
 }
 
 /// A mark, and the value, which is blank where it is missing.
-impl<T: Walk + Default> Walk for Option<T> {
+impl<T: Walk + Blank> Walk for Option<T> {
     fn walk<C: Cursor>(&mut self, c: &mut C) {
         let there = c.number(Cell::Mark, i64::from(self.is_some())) == 1;
-        let mut value = self.take().unwrap_or_default();
+        let mut value = self.take().unwrap_or_else(T::blank);
         value.walk(c);
         *self = if there { Some(value) } else { None };
     }
@@ -50,11 +55,41 @@ impl<T: Walk, const N: usize> Walk for [T; N] {
     }
 }
 
+/// A number is blank as 0.
+macro_rules! zero_is_blank {
+    ($($held:ty)*) => {
+        $(impl Blank for $held {
+            fn blank() -> Self {
+                0
+            }
+        })*
+    };
+}
+zero_is_blank!(u32 i32 u8);
+
+impl<T> Blank for Option<T> {
+    fn blank() -> Self {
+        None
+    }
+}
+
+impl<T: Blank + Copy, const N: usize> Blank for [T; N] {
+    fn blank() -> Self {
+        [T::blank(); N]
+    }
+}
+
 /// Declares a struct whose numbers are those of its fields in the order in which they stand.
 macro_rules! in_order {
     ($(#[$about:meta])* pub struct $name:ident { $($(#[$says:meta])* pub $field:ident: $held:ty,)* }) => {
         $(#[$about])*
         pub struct $name { $($(#[$says])* pub $field: $held,)* }
+
+        impl crate::walk::Blank for $name {
+            fn blank() -> Self {
+                $name { $($field: crate::walk::Blank::blank(),)* }
+            }
+        }
 
         impl crate::walk::Walk for $name {
             fn walk<C: crate::walk::Cursor>(&mut self, c: &mut C) {

@@ -86,6 +86,14 @@ fn numbers_places() {
 }
 
 #[test]
+fn field_of_a_line() {
+    let line = b"$GPGSV,1,1,01,05,,,*7D\r\n";
+    assert_eq!(castanwel::field(line, 4), Ok(&line[14..16]));
+    assert_eq!(castanwel::field(line, 7), Ok(&b""[..]));
+    assert_eq!(castanwel::field(line, 8).unwrap_err().number, 4);
+}
+
+#[test]
 fn refusal_of_a_line() {
     assert_eq!(castanwel::refusal(b"$GPGSV,1,1,00*79\r\n"), None);
     let twelve_fields = b"$GPGGA,000008.00,,,,,0,,,,,,*40\r\n";
@@ -348,4 +356,33 @@ fn sentence_from_bytes() {
 fn sky_from_bytes() {
     let sky = castanwel::Sky::try_from(b"$GPGSV,1,1,01,05,,,*7D\r\n".as_slice()).unwrap();
     assert_eq!(sky.to_string(), "$GPGSV,1,1,01,05,,,*7D");
+}
+
+#[test]
+fn records_with_little_sent() {
+    {
+        use castanwel::{Gll, Mode, Sentence, Status, Talker};
+        let none = Sentence::Gll(Talker::Gp, Gll::new(Status(b'V'), Mode(b'N')));
+        assert_eq!(none.to_string(), "$GPGLL,,,,,,V,N*64\r\n");
+    }
+    {
+        use castanwel::{Gsa, Selection, Sentence, Talker};
+        let none = Sentence::Gsa(Talker::Gp, Gsa::new(Selection(b'A'), 1));
+        assert_eq!(none.to_string(), "$GPGSA,A,1,,,,,,,,,,,,,,,*1E\r\n");
+    }
+    {
+        use castanwel::{Gsv, Sentence, Talker};
+        let none = Sentence::Gsv(Talker::Gp, Gsv::new(1, 1, 0));
+        assert_eq!(none.to_string(), "$GPGSV,1,1,00*79\r\n");
+    }
+    {
+        use castanwel::{Mode, Rmc, Sentence, Status, Talker};
+        let none = Sentence::Rmc(Talker::Gp, Rmc::new(Status(b'V'), Mode(b'N')));
+        assert_eq!(none.to_string(), "$GPRMC,,V,,,,,,,,,,N*53\r\n");
+    }
+    {
+        use castanwel::{Mode, Sentence, Talker, Vtg};
+        let none = Sentence::Vtg(Talker::Gp, Vtg::new(Mode(b'N')));
+        assert_eq!(none.to_string(), "$GPVTG,,T,,M,,N,,K,N*2C\r\n");
+    }
 }

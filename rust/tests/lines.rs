@@ -1,9 +1,9 @@
-//! The line rule, the finder and the places of fields, against the same rules written plainly, on many inputs.
+//! The line rule, the finder, the places of fields and field n, against the same rules written plainly, on many inputs.
 
 mod common;
 
-use castanwel::{line_refusal, lines, numbers, Finder, LONGEST};
-use common::{samples, some_line, Rng};
+use castanwel::{field, line_refusal, lines, numbers, refusal, Finder, Refusal, LONGEST};
+use common::{one_of_each, samples, some_line, Rng};
 
 /// The number by the line rule, 0 where it holds.
 fn rule(line: &[u8]) -> u8 {
@@ -141,4 +141,82 @@ fn the_places_of_fields() {
         ends.resize(room.max(ends.len()), 77777);
         assert_eq!(given, ends[..room], "{:?}", body);
     }
+}
+
+/// Field `n` by the rules, of a line whose first refusal is not one of 1 to 3: what stands between two commas, or 4.
+fn nth(line: &[u8], n: usize) -> Result<&[u8], Refusal> {
+    let fields: Vec<&[u8]> = line[1..line.len() - 5].split(|&b| b == b',').collect();
+    match fields.get(n) {
+        Some(field) if n > 0 => Ok(field),
+        _ => Err(Refusal { number: 4, line: 1, field: 0 }),
+    }
+}
+
+/// Whether a part is the caller's own bytes and no copy of them.
+fn lies_in(part: &[u8], line: &[u8]) -> bool {
+    let (part, line) = (part.as_ptr_range(), line.as_ptr_range());
+    line.start <= part.start && part.end <= line.end
+}
+
+#[test]
+fn every_field_of_a_line_of_each_kind() {
+    for line in one_of_each() {
+        let count = line.iter().filter(|&&b| b == b',').count();
+        for n in (0..count + 5).chain([79, 80, 81, 82, usize::MAX - 1, usize::MAX]) {
+            assert_eq!(field(&line, n), nth(&line, n), "field {} of {:?}", n, line);
+            assert_eq!(field(&line, n).is_ok(), (1..=count).contains(&n), "field {} of {:?}", n, line);
+        }
+    }
+}
+
+#[test]
+fn fields_that_are_empty_or_not_there() {
+    let line = b"$GPGGA,000008.00,,,,,0,,,,,,*40\r\n";
+    let none = Err(Refusal { number: 4, line: 1, field: 0 });
+    assert_eq!(refusal(line).map(|r| r.number), Some(4));
+    assert_eq!(field(line, 0), none);
+    assert_eq!(field(line, 1), Ok(&line[7..16]));
+    assert_eq!(field(line, 6), Ok(&b"0"[..]));
+    let last = field(line, 12).expect("a field after the last comma");
+    assert_eq!((last, last.as_ptr()), (&b""[..], line[28..].as_ptr()));
+    assert_eq!(field(line, 13), none);
+    let commas = b"$GPGGA,,,,,,,,,,,,,,,,,,,,,,,,,,,,,,,,,,,,,,,,,,,,,,,,,,,,,,,,,,,,,,,,,,,,,,,*7A\r\n";
+    assert_eq!((commas.len(), line_refusal(commas)), (82, None));
+    for n in 0..90 {
+        let expected = if (1..=71).contains(&n) { Ok(&b""[..]) } else { none };
+        assert_eq!(field(commas, n), expected, "field {}", n);
+    }
+}
+
+#[test]
+fn a_field_of_what_is_no_line() {
+    for (line, number) in [
+        (&b""[..], 1),
+        (b"$GPGSV,1,1,00*79\r", 1),
+        (b"$gPGSV,1,1,00^*79\r\n", 1),
+        (b"$GPGSV,1,1,00*78\r\n", 2),
+        (b"$GPSGG,CSTART*6B\r\n", 3),
+        (b"$GPGGA*56\r\n", 3),
+    ] {
+        for n in [0, 1, 2, 99] {
+            assert_eq!(field(line, n), Err(Refusal { number, line: 1, field: 0 }), "field {} of {:?}", n, line);
+        }
+    }
+}
+
+#[test]
+fn fields_of_many_lines() {
+    let (samples, mut rng, mut met) = (samples(), Rng::new(4), [0; 5]);
+    for _ in 0..100_000 {
+        let (line, n) = (some_line(&mut rng, &samples), rng.below(22));
+        let expected = match refusal(&line) {
+            Some(refusal) if refusal.number <= 3 => Err(refusal),
+            _ => nth(&line, n),
+        };
+        let given = field(&line, n);
+        assert_eq!(given, expected, "field {} of {:?}", n, line);
+        assert!(given.map_or(true, |part| lies_in(part, &line)), "field {} of {:?}", n, line);
+        met[given.map_or_else(|r| r.number as usize, |_| 0)] += 1;
+    }
+    assert!(met.iter().all(|&times| times > 100), "{:?}", met);
 }

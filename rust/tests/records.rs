@@ -37,7 +37,7 @@ fn gga() {
 
 #[test]
 fn gll_and_gsa() {
-    let sound = Gll { status: Status(b'A'), mode: Mode(b'A'), ..Gll::default() };
+    let sound = Gll::new(Status(b'A'), Mode(b'A'));
     let gll = |record| Sentence::Gll(Talker::Gl, record);
     assert!(write(&gll(sound), &mut [0; LONGEST]).is_ok());
     at_field(1, gll(Gll { place: Some(Place { lat: -LAT - 1, lon: 0 }), ..sound }));
@@ -45,7 +45,7 @@ fn gll_and_gsa() {
     at_field(6, gll(Gll { status: Status(b'D'), ..sound }));
     at_field(7, gll(Gll { mode: Mode(0), ..sound }));
 
-    let sound = Gsa { selection: Selection(b'M'), fix: 1, ..Gsa::default() };
+    let sound = Gsa::new(Selection(b'M'), 1);
     let gsa = |record| Sentence::Gsa(Talker::Ga, record);
     assert!(write(&gsa(sound), &mut [0; LONGEST]).is_ok());
     at_field(1, gsa(Gsa { selection: Selection(b'a'), ..sound }));
@@ -95,7 +95,7 @@ fn gsv() {
 
 #[test]
 fn rmc_and_vtg() {
-    let sound = Rmc { status: Status(b'V'), mode: Mode(b'N'), ..Rmc::default() };
+    let sound = Rmc::new(Status(b'V'), Mode(b'N'));
     let rmc = |record| Sentence::Rmc(Talker::Gn, record);
     assert!(write(&rmc(sound), &mut [0; LONGEST]).is_ok());
     at_field(1, rmc(Rmc { time: Some(Time(u32::MAX)), ..sound }));
@@ -108,7 +108,7 @@ fn rmc_and_vtg() {
     at_field(10, rmc(Rmc { variation: Some(Signed(-180_000)), ..sound }));
     at_field(12, rmc(Rmc { mode: Mode(b'P'), ..sound }));
 
-    let sound = Vtg { mode: Mode(b'S'), ..Vtg::default() };
+    let sound = Vtg::new(Mode(b'S'));
     let vtg = |record| Sentence::Vtg(Talker::Gp, record);
     assert!(write(&vtg(sound), &mut [0; LONGEST]).is_ok());
     at_field(1, vtg(Vtg { course: Some(Number(360_000)), ..sound }));
@@ -177,4 +177,24 @@ fn words_of_a_refusal() {
     assert_eq!(meanings.len(), 10);
     let boxed: Box<dyn std::error::Error> = Box::new(read(b"").unwrap_err());
     assert!(boxed.to_string().starts_with("refusal 1 at line 1: "));
+}
+
+/// A record that has a default can be written as it is.
+#[test]
+fn defaults_can_be_written() {
+    let sentences = [
+        Sentence::Gga(Talker::default(), Gga::default()),
+        Sentence::Zda(Talker::default(), Zda::default()),
+        Sentence::Pirpr(PortAsked::default()),
+        Sentence::Pirtr(DatumAsked::default()),
+        Sentence::Pirsr(MasksAsked::default()),
+        Sentence::Pirer(CodeAsked),
+        Sentence::Pirta(DatumTold::default()),
+        Sentence::Pirsa(MasksTold::default()),
+        Sentence::Pirea(CodeTold::default()),
+    ];
+    for sentence in sentences {
+        assert!(write(&sentence, &mut [0; LONGEST]).is_ok(), "{:?}", sentence);
+    }
+    assert!(castanwel::write_group(&Sky::default(), &mut [0; LONGEST]).is_ok());
 }

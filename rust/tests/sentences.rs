@@ -159,7 +159,7 @@ fn a_value_marked_missing_that_is_not_zero() {
 #[test]
 fn each_talker() {
     for talker in Talker::ALL {
-        let sentence = Sentence::Vtg(talker, castanwel::Vtg { mode: castanwel::Mode(b'N'), ..Default::default() });
+        let sentence = Sentence::Vtg(talker, castanwel::Vtg::new(castanwel::Mode(b'N')));
         let mut out = [0; LONGEST];
         let length = write(&sentence, &mut out).expect("a VTG that has its mode alone");
         assert_eq!(&out[1..3], talker.word().as_bytes());

@@ -19,7 +19,8 @@ use Rattle.address.specs.declared.Address.{Address}
 use Rattle.address.specs.Address.{addressOf}
 use Rattle.fields.specs.Places.{Placed, fieldIn, placeIn}
 use Rattle.fields.specs.Part.{PartAt}
-use Rattle.fields.specs.FieldN.{addressRefusal, fieldNo, fieldBytes, fieldPlace}
+use Rattle.fields.specs.FieldN.{addressRefusal, fieldAt}
+use Rattle.fields.specs.declared.Field.{Field}
 use Rattle.finder.specs.declared.Fed.{Fed}
 use Rattle.finder.specs.declared.Found.{Found}
 use Rattle.finder.specs.Finder.{endsHere, fedOf, heldNext}
@@ -102,10 +103,8 @@ field-in l p k r s = part l _ _ r s
 pub address-refusal : (l : List ℕ) (r s : ℕ) → r ≡ addressRefusal l → s ≡ addressRefusal l → r ≡ s
 address-refusal l r s = equation
 
-pub field : (l : RefT (List ℕ)) (n : ℕ) (r s : RefT (List ℕ)) (a b : ℕ)
-    → PartAt l (fieldPlace (now l) n) (fieldBytes (now l) n) r × (a ≡ fieldNo (now l) n)
-    → PartAt l (fieldPlace (now l) n) (fieldBytes (now l) n) s × (b ≡ fieldNo (now l) n) → SamePart r s × (a ≡ b)
-field l n r s a b p q = (part l _ _ r s (p .0) (q .0), equation (p .1) (q .1))
+pub field-at : (l : List ℕ) (n : ℕ) (r s : Field) → r ≡ fieldAt l n → s ≡ fieldAt l n → r ≡ s
+field-at l n r s = equation
 
 -- finder
 pub feed : (held b : ℕ) (r s : Fed) → r ≡ fedOf held b → s ≡ fedOf held b → r ≡ s

@@ -19,6 +19,7 @@ use Rattle.kind_gsv.specs.Row.{entryLayout}
 use Rattle.address.specs.declared.Talker.{Talker}
 use Rattle.address.specs.declared.Kind.{Kind}
 use Rattle.address.specs.declared.Pir.{Pir}
+use Rattle.fields.specs.FieldN.{fieldAt}
 use Rattle.sentence.specs.Numbers.{countOf}
 use Rattle.kind_gga.specs.Row.{ggaAt}
 use Rattle.kind_gll.specs.Row.{gllAt}
@@ -191,6 +192,11 @@ settings-said n = one
 pub host-record : (line : List ℕ) (numbers : List ℤ)
     → One (toldFor (readLine line) numbers) × One (laidFor (readLine line) numbers)
 host-record line numbers = (one, one)
+
+pub host-field : (line : List ℕ) (n start end : ℕ)
+    → One (fieldAt line n .no) × One (setAt (fieldAt line n .no) (fieldAt line n .start) start)
+    × One (setAt (fieldAt line n .no) (fieldAt line n .end) end) × One (singleLine (fieldAt line n .no)) × One {A = ℕ} 0
+host-field line n start end = (one, one, one, one, one)
 
 pub host-read-numbers : (line : List ℕ) (numbers : List ℤ) (kind : ℕ)
     → One (toldFor (readLine line) numbers .no)

@@ -20,6 +20,7 @@ pub mod DeterminedIndex
 pub mod DeterminedWords
 pub mod WrongNumbers
 pub mod Exported
+pub mod Field
 pub mod Alone
 pub mod ReadAgain
 pub mod SkyAgain

@@ -4,3 +4,4 @@ pub mod Refusing
 pub mod Joining
 pub mod AllFields
 pub mod Passing
+pub mod FieldParts

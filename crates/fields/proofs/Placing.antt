@@ -38,7 +38,8 @@ module _ (s p : List ℕ) where
   abbrev ends : List ℕ
   ends = sets p 0 (endsFrom 0 s)
 
-  end-at : (k : ℕ) → k < length p → k < length (fieldsOf s) → getD ends k 0 ≡ startOf k (fieldsOf s) + length (getD (fieldsOf s) k [])
+  -- field k ends there
+  pub end-at : (k : ℕ) → k < length p → k < length (fieldsOf s) → getD ends k 0 ≡ startOf k (fieldsOf s) + length (getD (fieldsOf s) k [])
   end-at k h g =
       let z : 0 + k ≡ k = omega arith in
       let w : k < length (endsFrom 0 s) = rw (ends-count 0 s) g in
@@ -51,6 +52,12 @@ module _ (s p : List ℕ) where
   start-at (suc k) h g =
       rw (ne-eqb (suc k) 0 (λ e. omega arith), sub-one) (omega (arith, end-at k (omega arith) (omega arith), next-start k (fieldsOf s) g))
 
+  -- a field behind another starts past its end and its comma
+  pub starts : (k : ℕ) → 1 ≤ k → k < length p → k < length (fieldsOf s) → getD ends (k - 1) 0 + 1 ≡ startOf k (fieldsOf s)
+  unfolding startIn
+  starts k o h g =
+      rw (ne-eqb k 0 (λ e. omega arith)) at (start-at k h g)
+
   is-in : (k : ℕ) → k < length p → k < length (fieldsOf s) → isIn ends k s ≡ true
   unfolding isIn
   is-in k h g =
@@ -62,17 +69,13 @@ module _ (s p : List ℕ) where
         le-leb (startIn ends k) (getD ends k 0) (omega (arith, end-at k h g, start-at k h g)),
       )
 
-  -- Field k by the places is the kth of the fields, at its place.
+  -- Field k by the places is the kth of the fields.
   pub placed-field : (k : ℕ) → k < length p → k < length (fieldsOf s) → fieldIn ends k s ≡ getD (fieldsOf s) k []
   unfolding fieldIn
   placed-field k h g =
       let f = field-at 0 s k g in
       let w : getD ends k 0 - startIn ends k ≡ length (getD (fieldsOf s) k []) = omega (arith, end-at k h g, start-at k h g) in
       rw (is-in k h g, w, start-at k h g) (f .bytes)
-
-  pub placed-place : (k : ℕ) → k < length p → k < length (fieldsOf s) → placeIn ends k s ≡ startOf k (fieldsOf s)
-  unfolding placeIn
-  placed-place k h g = rw (is-in k h g) (start-at k h g)
 
 -- the ways out of a field by its places, in the code's order
 module _ (p : List ℕ) (k : ℕ) (s : List ℕ) where

@@ -1,4 +1,4 @@
--- What is refused before the fields are looked at, and field n, one law for each way out.
+-- What is refused before the fields are looked at, and where field n stands, one law for each way out.
 use Prim.Native.Nat.{ℕ, _+_, _-_, _≤_, _<_}
 use mathlib.Core.Path.{_≡_, refl, sym, _∙_, ap}
 use mathlib.Core.List.{List, []}
@@ -15,10 +15,10 @@ use Rattle.address.specs.declared.Address.{Address}
 use Rattle.address.specs.Address.{addressOf}
 use Rattle.fields.specs.Fields.{fieldsOf, startOf}
 use Rattle.line.specs.Ends.{endsFrom}
-use Rattle.fields.specs.Places.{fieldIn, placeIn}
-use Rattle.fields.specs.FieldN.{unknownNo, addressRefusal, fieldNo, fieldBytes, fieldPlace}
-use Rattle.fields.proofs.Splitting.{fields-most}
-use Rattle.fields.proofs.Placing.{placed-field, placed-place}
+use Rattle.fields.specs.FieldN.{unknownNo, addressRefusal, fieldNo, fieldBytes, fieldPlace, fieldAt}
+use Rattle.fields.specs.declared.Field.{Field}
+use Rattle.fields.proofs.Splitting.{fields-most, field-at}
+use Rattle.fields.proofs.Placing.{end-at, starts}
 
 module _ (l : List ℕ) (no : ℕ) (e : no ≡ lineRefusal l) where
   pub line-refused : (no ≡ 0 → ⊥) → no ≡ addressRefusal l
@@ -39,48 +39,58 @@ address-line l e = go (eqb (lineRefusal l) 0) refl e
     go true i f = eqb-true (lineRefusal l) 0 i
     go false i f = f
 
--- what field n of a line comes to: its number, its place, its bytes
-pub record Comes (l : List ℕ) (n no place : ℕ) (bytes : List ℕ) : Type 0 where
-  pub number : no ≡ fieldNo l n
-  pub at : place ≡ fieldPlace l n
-  pub holds : bytes ≡ fieldBytes l n
+-- field n of a line by its number, its start and its end
+abbrev pub from-to : ℕ → ℕ → ℕ → Field
+from-to k start end = record { no = k; start = start; end = end }
 
-comes-refused : (l : List ℕ) (n k : ℕ) → k ≡ fieldNo l n → (k ≡ 0 → ⊥) → Comes l n k 0 []
+is-refused : (l : List ℕ) (n k : ℕ) → k ≡ fieldNo l n → (k ≡ 0 → ⊥) → from-to k 0 0 ≡ fieldAt l n
 unfolding fieldPlace fieldBytes
-comes-refused l n k e z =
+is-refused l n k e z =
     let f : eqb (fieldNo l n) 0 ≡ false = rw (← e) (ne-eqb k 0 z) in
-    record { number = e; at = rw f; holds = rw f }
+    rw (f, e)
 
 module _ (l : List ℕ) (n : ℕ) where
-  pub not-addressed : (k : ℕ) → k ≡ addressRefusal l → (k ≡ 0 → ⊥) → Comes l n k 0 []
+  pub not-addressed : (k : ℕ) → k ≡ addressRefusal l → (k ≡ 0 → ⊥) → from-to k 0 0 ≡ fieldAt l n
   unfolding fieldNo
-  not-addressed k e z = comes-refused l n k (rw (← e, ne-eqb k 0 z)) z
+  not-addressed k e z = is-refused l n k (rw (← e, ne-eqb k 0 z)) z
 
   module _ (a : addressRefusal l ≡ 0) where
     there : fieldNo l n ≡ cond (leb 1 n && ltb n (length (fieldsOf (bodyOf l)))) 0 4
     unfolding fieldNo
     there = rw (eq-eqb (addressRefusal l) 0 a)
 
-    pub no-zeroth : n < 1 → Comes l n 4 0 []
-    no-zeroth h = comes-refused l n 4 (sym (there ∙ rw (lt-leb 1 n h))) (λ e. omega arith)
+    pub no-zeroth : n < 1 → from-to 4 0 0 ≡ fieldAt l n
+    no-zeroth h = is-refused l n 4 (sym (there ∙ rw (lt-leb 1 n h))) (λ e. omega arith)
 
     module _ (o : 1 ≤ n) where
-      pub past-last : length (fieldsOf (bodyOf l)) ≤ n → Comes l n 4 0 []
-      past-last h = comes-refused l n 4 (sym (there ∙ rw (le-leb 1 n o, le-ltb n (length (fieldsOf (bodyOf l))) h))) (λ e. omega arith)
+      pub past-last : length (fieldsOf (bodyOf l)) ≤ n → from-to 4 0 0 ≡ fieldAt l n
+      past-last h = is-refused l n 4 (sym (there ∙ rw (le-leb 1 n o, le-ltb n (length (fieldsOf (bodyOf l))) h))) (λ e. omega arith)
 
-      pub is-field : n < length (fieldsOf (bodyOf l)) → Comes l n 0 (startOf n (fieldsOf (bodyOf l)) + 1) (getD (fieldsOf (bodyOf l)) n [])
-      unfolding fieldPlace fieldBytes
-      is-field h =
-          let e : fieldNo l n ≡ 0 = there ∙ rw (le-leb 1 n o, lt-ltb n (length (fieldsOf (bodyOf l))) h) in
-          let f : eqb (fieldNo l n) 0 ≡ true = eq-eqb (fieldNo l n) 0 e in
-          record { number = sym e; at = rw f; holds = rw f }
+      module _ (h : n < length (fieldsOf (bodyOf l))) where
+        is-field : (s e : ℕ) → s ≡ startOf n (fieldsOf (bodyOf l)) + 1 → e ≡ s + length (getD (fieldsOf (bodyOf l)) n [])
+            → from-to 0 s e ≡ fieldAt l n
+        unfolding fieldPlace fieldBytes
+        is-field s e i j =
+            let z : fieldNo l n ≡ 0 = there ∙ rw (le-leb 1 n o, lt-ltb n (length (fieldsOf (bodyOf l))) h) in
+            let f : eqb (fieldNo l n) 0 ≡ true = eq-eqb (fieldNo l n) 0 z in
+            rw (f, z, j, i)
 
-      -- by the ends that were stored in 80 places
-      pub placed : (p : List ℕ) → length p ≡ 80 → n < length (fieldsOf (bodyOf l))
-          → Comes l n 0 (placeIn (sets p 0 (endsFrom 0 (bodyOf l))) n (bodyOf l) + 1)
-          (fieldIn (sets p 0 (endsFrom 0 (bodyOf l))) n (bodyOf l))
-      placed p r h =
-          let m = fields-most (bodyOf l) in
-          let b = accepted l (address-line l a) .0 .room in
-          let k : n < length p = omega arith in
-          rw (placed-place (bodyOf l) p n k h, placed-field (bodyOf l) p n k h) (is-field h)
+        pub few : n < 80
+        few = omega (arith, fields-most (bodyOf l), accepted l (address-line l a) .0 .room)
+
+        -- by the ends q that were stored in 80 places p
+        module _ (p q : List ℕ) (r : length p ≡ 80) (e : q ≡ sets p 0 (endsFrom 0 (bodyOf l))) where
+          start : getD q (n - 1) 0 + 1 ≡ startOf n (fieldsOf (bodyOf l))
+          start = rw e (starts (bodyOf l) p n o (omega (arith, few)) h)
+
+          end : getD q n 0 ≡ startOf n (fieldsOf (bodyOf l)) + length (getD (fieldsOf (bodyOf l)) n [])
+          end = rw e (end-at (bodyOf l) p n (omega (arith, few)) h)
+
+          pub placed : from-to 0 (getD q (n - 1) 0 + 2) (getD q n 0 + 1) ≡ fieldAt l n
+          placed = is-field _ _ (omega (arith, start)) (omega (arith, start, end))
+
+          pub low : (getD q (n - 1) 0 ≤ 76) × (getD q n 0 ≤ 76)
+          low =
+              let b = accepted l (address-line l a) .0 .room in
+              let f = field-at 0 (bodyOf l) n h .inside in
+              (omega (arith, b, f, start), omega (arith, b, f, end))

@@ -3,7 +3,7 @@ use address::Address;
 ghost use mathlib.Core.Path.{_≡_};
 ghost use Rattle.fields.specs.Places.{Placed, fieldIn, placeIn};
 ghost use Rattle.fields.specs.Part.{PartAt};
-ghost use Rattle.fields.specs.FieldN.{addressRefusal, fieldNo, fieldBytes, fieldPlace};
+ghost use Rattle.fields.specs.FieldN.{addressRefusal, fieldAt};
 
 // How many fields the body `s` has. The place where each ends is stored in `p`, one after another,
 // as far as there is room.
@@ -63,31 +63,49 @@ pub fn address_refusal(line: &[u8]) -> u8
     }
 }
 
-// Field `n` after the address, as a part of the caller's line. Refused, it is an empty part, and
-// `no` is 1 to 3, or 4 where there is no field n.
+// Field `n` after the address: the part of the caller's line from `start` up to `end`, and `no` is 0. Refused, it is an empty part,
+// from 0 up to 0, beside its number.
+pub struct Field {
+    pub no: u8,
+    pub start: usize,
+    pub end: usize,
+}
+
+// Where field `n` after the address stands in the line. Refused: 1 to 3 as by `address_refusal`, then 4 where there is no
+// field n.
 //
-//     $GPGSV,5,5,17,77,71,048,53*43    field 3 is 17
-pub fn field<'a>(line: &'a [u8], n: usize, no: &mut u8) -> &'a [u8]
-    ensures place { λ r. ⌜ PartAt (line .entry) (fieldPlace (now (line .entry)) n) (fieldBytes (now (line .entry)) n) r ⌝ }
-    ensures number { λ r. ⌜ now (no .exit) ≡ fieldNo (now (line .entry)) n ⌝ }
+//     $GPGSV,5,5,17,77,71,048,53*43    field 3 is 17, from 11 up to 13
+pub fn field_at(line: &[u8], n: usize) -> Field
+    ensures { λ r. ⌜ r ≡ fieldAt (now (line .entry)) n ⌝ }
 {
     let refusal = address_refusal(line);
     if refusal != 0 {
-        *no = refusal;
-        return &line[0..0];
+        return Field {
+            no: refusal,
+            start: 0,
+            end: 0,
+        };
     }
     let end = line.len() - 5;
-    let body = &line[1..end];
     let mut ends = [0usize; 80];
-    let count = places(body, &mut ends);
+    let count = places(&line[1..end], &mut ends);
     if n < 1 {
-        *no = 4;
-        return &line[0..0];
+        return Field {
+            no: 4,
+            start: 0,
+            end: 0,
+        };
     }
     if count <= n {
-        *no = 4;
-        return &line[0..0];
+        return Field {
+            no: 4,
+            start: 0,
+            end: 0,
+        };
     }
-    *no = 0;
-    field_in(body, &ends, n)
+    Field {
+        no: 0,
+        start: ends[n - 1] + 2,
+        end: ends[n] + 1,
+    }
 }

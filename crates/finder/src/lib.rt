@@ -39,8 +39,9 @@ pub fn feed(held: usize, b: u8) -> Fed
     }
 }
 
-// The first line of a slice from a place on: where it starts and ends. Where there is none, `line`
-// is false, `end` is the end of the slice, and an unfinished line begins at `start`.
+// The first line of a slice from a place on: where it starts and ends. Where there is none, `line` is false,
+// `end` is the end of the slice, or the place itself where that lies beyond it, and an unfinished line begins at
+// `start`, which is `end` where nothing is unfinished.
 pub struct Found {
     pub line: bool,
     pub start: usize,
@@ -78,7 +79,8 @@ fn reach(until: usize, fresh: usize, b: u8) -> usize
     if b == b'$' { fresh } else { until }
 }
 
-// The first line that the finder gives out when it is fed the bytes of `s` from `at` on.
+// The first line that the finder gives out when it is fed the bytes of `s` from `at` on; from beyond the end of `s` it
+// finds none, and both places are `at`.
 pub fn next_line(s: &[u8], at: usize) -> Found
     ensures { λ r. ⌜ r ≡ foundAt (now (s .entry)) at ⌝ }
 {

@@ -4,8 +4,8 @@ ghost use mathlib.Core.Path.{_≡_};
 ghost use Rattle.digits.specs.Means.{num};
 ghost use Rattle.form.specs.Got.{gotOf, maybeOf, withinOf};
 
-// Which of the fields is wrong, counted from 1, or 0 for none; whether the first one is there, that
-// is, not empty; and the value, 0 where it is missing or wrong.
+// Which of the fields is wrong, counted from 1, or 0 for none; where none is, whether the value was sent, that is, not all
+// of its fields are empty; and the value, 0 where it is missing or wrong.
 pub struct Got {
     pub wrong: u8,
     pub there: bool,

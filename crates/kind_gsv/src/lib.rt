@@ -13,6 +13,8 @@ ghost use Rattle.fields.specs.Places.{fieldsBy};
 ghost use Rattle.frame.specs.Written.{Writes};
 ghost use Rattle.kind_gsv.specs.Blank.{isBlank};
 ghost use mathlib.Core.List.{[]};
+ghost use lib.Dec.{leb};
+ghost use lib.ListN.{length};
 ghost use Rattle.form.specs.Values.{isMissing};
 ghost use Rattle.numbers.specs.Layout.{listAt, listNumbers};
 ghost use Rattle.numbers.specs.Numbers.{laid};
@@ -38,8 +40,9 @@ pub struct Gsv {
     pub entries: [Entry; 4],
 }
 
-// Stores the seven numbers of a satellite of a GSV at the start of `out`, where there is room for them.
+// Whether there is room in `out` for the seven numbers of a satellite of a GSV; then they stand at its start.
 pub fn lay_entry(out: &mut [i64], e: Entry) -> bool
+    ensures { λ r. ⌜ r ≡ leb 7 (length (now (out .entry))) ⌝ }
     ensures { λ _. ⌜ now (out .exit) ≡ laid (entryLayout .numbers e []) (now (out .entry)) ⌝ }
 {
     let v = [

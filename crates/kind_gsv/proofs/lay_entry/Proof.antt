@@ -30,7 +30,7 @@ returns c =
     ⋮ wide (v .azimuth .value) (f .2)
     ⋮ mark-back (v .signal .there)
     ⋮ wide (v .signal .value) (f .3)
-    ⋮ refl) .1
+    ⋮ refl)
 
 pub lay-entry-spec : {M : Type 1} → statement M
 lay-entry-spec =

@@ -3,7 +3,7 @@
 use crate::lent::{is_stale, refused, touched, Lent, STALE};
 use crate::words::{self, Number, MOST};
 use castanwel::numbers::{self, RECORD};
-use castanwel::{Kind, Refusal, Talker};
+use castanwel::{Kind, Talker};
 
 /// How many bytes there are to write a line to.
 const ROOM: usize = 200;
@@ -54,29 +54,13 @@ pub fn line(rest: &[u8]) -> Option<String> {
     }
 }
 
-/// Where field `n` of a line lies, found by the ends of the fields of its body.
-fn field_at(line: &[u8], n: usize) -> Result<(usize, usize), Refusal> {
-    if let Some(refusal) = castanwel::refusal(line) {
-        if refusal.number <= 3 {
-            return Err(refusal);
-        }
-    }
-    let mut ends = [0; castanwel::LONGEST];
-    let count = numbers::places(&line[1..line.len() - 5], &mut ends);
-    if n == 0 || n >= count {
-        return Err(Refusal { number: 4, line: 1, field: 0 });
-    }
-    let start = ends[n - 1] + 1;
-    Ok((start + 1, ends[n] - start))
-}
-
 /// The field of a row, `NUMBER HEX`, found: where it begins in the line, and its length.
 pub fn field(rest: &[u8]) -> Option<String> {
     let blank = rest.iter().position(|&b| b == b' ')?;
     let n = Number::of(&rest[..blank])?.plain();
     let line = words::bytes(&rest[blank + 1..], MOST)?;
-    Some(match field_at(&line, n as usize) {
-        Ok((start, length)) => format!("ok {} {}", start, length),
+    Some(match castanwel::field(&line, n as usize) {
+        Ok(part) => format!("ok {} {}", part.as_ptr() as usize - line.as_ptr() as usize, part.len()),
         Err(refusal) => refused(refusal),
     })
 }
