@@ -89,8 +89,9 @@ pub fn line_refusal(line: &[u8]) -> Option<Refusal> {
     refused(number, 1, 0).err()
 }
 
-/// Whether `s` has a line from `at` on, and two places. The first line lies between them; where there is none, an unfinished line
-/// begins at the first, and the second is the end of `s`.
+/// Whether `s` has a line from `at` on, and two places. The first line lies between them. Where there is none, the second is the
+/// end of `s`, or `at` where that lies behind it, and an unfinished line that can still end within 82 bytes begins at the first;
+/// without one both are the same.
 ///
 /// ```
 /// let log = b"noise$GPGSV,1,1,00*79\r\n$GP";

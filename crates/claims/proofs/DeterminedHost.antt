@@ -6,8 +6,7 @@ use mathlib.Core.Bool.{false}
 use lib.Dec.{leb}
 use lib.ListN.{length, getD}
 use lib.IntN.{ℤ, pos}
-use Rattle.numbers.specs.Numbers.{isThere, isMark, isWhole, laid, talkerNumber, talkerOf}
-use Rattle.numbers.specs.Layout.{whole, signed}
+use Rattle.numbers.specs.Numbers.{isThere, isMark, isWhole, laid, signedOf, talkerNumber, talkerOf, wholeOf}
 use Rattle.numbers.specs.Told.{gives, told}
 use Rattle.kind_gsv.specs.declared.Entry.{Entry}
 use Rattle.form.specs.Numbers.{maybeLayout}
@@ -51,19 +50,12 @@ use Rattle.host.specs.Command.{startNo, stepped, countsAt}
 use Rattle.claims.proofs.Determined.{One, one}
 use Rattle.claims.proofs.DeterminedWriting.{one-writing, OneWriting}
 
--- Values laid at the start of a lent slice: whether there was room, and the slice after it.
-abbrev OneLaying : List ℤ → List ℤ → Type 0
-OneLaying values out = One (leb (length values) (length out)) × One (laid values out)
-
-laying : (values out : List ℤ) → OneLaying values out
-laying values out = (one, one)
-
 -- numbers
 pub number-in : (numbers : List ℤ) (i : ℕ) → One (getD numbers i (pos 0))
 number-in numbers i = one
 
-pub numbers-lay : (values out : List ℤ) → OneLaying values out
-numbers-lay = laying
+pub numbers-lay : (out values : List ℤ) → One (leb (length values) (length out)) × One (laid values out)
+numbers-lay out values = (one, one)
 
 pub number-there : (numbers : List ℤ) (i : ℕ) → One (isThere (getD numbers i (pos 0)))
 number-there numbers i = one
@@ -71,10 +63,13 @@ number-there numbers i = one
 pub number-mark : (numbers : List ℤ) (i : ℕ) → One (isMark (getD numbers i (pos 0)))
 number-mark numbers i = one
 
-pub number-whole : (numbers : List ℤ) (i : ℕ) → One (isWhole (getD numbers i (pos 0))) × One (whole .at numbers i)
-number-whole numbers i = (one, one)
+pub number-is-whole : (numbers : List ℤ) (i : ℕ) → One (isWhole (getD numbers i (pos 0)))
+number-is-whole numbers i = one
 
-pub number-signed : (numbers : List ℤ) (i : ℕ) → One (signed .at numbers i)
+pub number-whole : (numbers : List ℤ) (i : ℕ) → One (wholeOf (getD numbers i (pos 0)))
+number-whole numbers i = one
+
+pub number-signed : (numbers : List ℤ) (i : ℕ) → One (signedOf (getD numbers i (pos 0)))
 number-signed numbers i = one
 
 pub number-talker-number : (t : Talker) → One (talkerNumber t)
@@ -90,11 +85,11 @@ tell-refused n field = one
 pub tell-bare : (kind : ℕ) → One (told 0 kind 0)
 tell-bare kind = one
 
-pub tell-laid : (out values : List ℤ) (kind : ℕ) → One (gives out kind values .0) × One (gives out kind values .1)
-tell-laid out values kind = (one, one)
+pub tell-laid : (out : List ℤ) (kind : ℕ) (values : List ℤ) → One (gives out kind values .0) × One (gives out kind values .1)
+tell-laid out kind values = (one, one)
 
-pub lay-entry : (e : Entry) (out : List ℤ) → One (laid (entryLayout .numbers e []) out)
-lay-entry e out = one
+pub lay-entry : (out : List ℤ) (e : Entry) → One (leb 7 (length out)) × One (laid (entryLayout .numbers e []) out)
+lay-entry out e = (one, one)
 
 -- Records and values from numbers.
 pub gga-at : (n : List ℤ) → One (ggaAt n)
@@ -173,14 +168,14 @@ pub address-at : (kind : ℕ) (talker : ℕ) → One (addressAt kind talker)
 address-at kind talker = one
 
 -- sky_numbers, receiver_numbers
-pub lay-sky : (t : Talker) (r : Table) (out : List ℤ) → One (leb 254 (length out)) × One (laid (skyNumbers t r) out)
-lay-sky t r out = (one, one)
+pub lay-sky : (out : List ℤ) (t : Talker) (r : Table) → One (leb 254 (length out)) × One (laid (skyNumbers t r) out)
+lay-sky out t r = (one, one)
 
 pub table-at : (n : List ℤ) → One (tableAt n)
 table-at n = one
 
-pub lay-settings : (s : Settings) (out : List ℤ) → One (leb 11 (length out)) × One (laid (settingNumbers s) out)
-lay-settings s out = (one, one)
+pub lay-settings : (out : List ℤ) (s : Settings) → One (leb 11 (length out)) × One (laid (settingNumbers s) out)
+lay-settings out s = (one, one)
 
 pub settings-at : (n : List ℤ) → One (settingsAt n)
 settings-at n = one
@@ -205,13 +200,13 @@ pub host-read-numbers : (line : List ℕ) (numbers : List ℤ) (kind : ℕ)
     × One (laidFor (readLine line) numbers)
 host-read-numbers line numbers kind = (one, one, one, one, one)
 
-pub write-standard : (t : Talker) (k : Kind) (n : List ℤ) (out : List ℕ)
+pub write-standard : (out : List ℕ) (t : Talker) (k : Kind) (n : List ℤ)
     → OneWriting (numbersFault false (standardAt t k n)) (recordBody (standardAt t k n)) out
-write-standard t k n out = one-writing _ _ out
+write-standard out t k n = one-writing _ _ out
 
-pub write-maker : (k : Pir) (n : List ℤ) (out : List ℕ)
+pub write-maker : (out : List ℕ) (k : Pir) (n : List ℤ)
     → OneWriting (numbersFault (maskOver k n) (makerAt k n)) (recordBody (makerAt k n)) out
-write-maker k n out = one-writing _ _ out
+write-maker out k n = one-writing _ _ out
 
 pub host-line : (kind : ℕ) (numbers : List ℤ) (out : List ℕ)
     → One (writtenAs kind numbers out) × One (leftAs kind numbers out)
@@ -234,8 +229,8 @@ pub host-write-group : (numbers : List ℤ) (out : List ℕ) (stood : ℕ)
 host-write-group numbers out stood = (one, one, one, one, one)
 
 pub host-start : (settings : List ℤ)
-    → One (startNo settings) × One (laid (settingNumbers atStart) settings)
-host-start settings = (one, one)
+    → One (startNo settings) × One {A = ℕ} 0 × One {A = ℕ} 0 × One (laid (settingNumbers atStart) settings)
+host-start settings = (one, one, one, one)
 
 pub host-step : (settings : List ℤ) (arrival : ℕ) (line : List ℕ) (out : List ℕ) (stood : ℕ)
     → One (stepped settings arrival line out .answer .no)

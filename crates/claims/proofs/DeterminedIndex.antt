@@ -2,7 +2,6 @@
 use Prim.Native.Nat.{ℕ}
 use mathlib.Core.List.{List}
 use lib.ListN.{drop, length}
-use Rattle.put.specs.Wrote.{Held, wrote}
 use Rattle.index_sevens.specs.Sevens.{sevens, takeSevens}
 use Rattle.index_sevens.specs.Places.{takenAt}
 use Rattle.index.specs.declared.Entry.{Entry}
@@ -12,13 +11,14 @@ use Rattle.index.specs.Places.{nextAt, scanOf}
 use Rattle.host.specs.Answer.{setAt}
 use Rattle.host.specs.Index.{entryWith}
 use Rattle.claims.proofs.Determined.{One, one}
+use Rattle.claims.proofs.DeterminedWriting.{one-put, OnePut}
 
 -- sevens
 pub sevens-size : (v : ℕ) → One (length (sevens v))
 sevens-size v = one
 
-pub sevens-put : (h : Held) (v : ℕ) → One (wrote h (sevens v))
-sevens-put h v = one
+pub sevens-put : (d : List ℕ) (at : ℕ) (v : ℕ) → OnePut d at (sevens v)
+sevens-put d at v = one-put d at (sevens v)
 
 pub sevens-take : (s : List ℕ) (at : ℕ) → One (takenAt (length s) (takeSevens (drop at s)))
 sevens-take s at = one
@@ -30,8 +30,8 @@ index-origin = one
 pub index-fits : (last e : Entry) → One (fits last e)
 index-fits last e = one
 
-pub index-put-entry : (h : Held) (last e : Entry) → One (wrote h (entryBytes last e))
-index-put-entry h last e = one
+pub index-put-entry : (d : List ℕ) (at : ℕ) (last e : Entry) → OnePut d at (entryBytes last e)
+index-put-entry d at last e = one-put d at (entryBytes last e)
 
 pub index-entry-at : (s : List ℕ) (at : ℕ) (last : Entry) → One (nextAt (length s) (entryOf last (drop at s)))
 index-entry-at s at last = one

@@ -34,7 +34,7 @@ pub row : (d : List ℕ) (at : ℕ) (n : ℕ) (line : List ℕ) (told : Told) (n
 row d at n line told numbers asked = one-put d at (toldRow n line told numbers asked)
 
 -- turns
-pub kept : (a e : ℕ) (buf : List ℕ) (r q : ℕ) (l m : List ℕ) → Keeps a e buf r l → Keeps a e buf q m → (r ≡ q) × (l ≡ m)
-kept a e buf r q l m k n =
+pub kept : (buf : List ℕ) (a e : ℕ) (r q : ℕ) (l m : List ℕ) → Keeps a e buf r l → Keeps a e buf q m → (r ≡ q) × (l ≡ m)
+kept buf a e r q l m k n =
     let same : r ≡ q = k .many ∙ sym (n .many) in
     (same, k .bytes ∙ (ap (λ (j : ℕ). part a e buf ++ drop j buf) same ∙ sym (n .bytes)))

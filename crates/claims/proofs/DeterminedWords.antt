@@ -4,7 +4,6 @@ use mathlib.Core.Path.{_∙_, _≡_, ap, refl, sym}
 use mathlib.Core.Option.{none, Option, some}
 use mathlib.Core.List.{List}
 use lib.IntN.{ℤ}
-use Rattle.put.specs.Wrote.{Held, wrote}
 use Rattle.phrases.specs.Phrases.{measureText}
 use Rattle.words.specs.Words.{kindText, refusalText, wordsText}
 use Rattle.exhibits_lists.specs.declared.Parsed.{Parsed}
@@ -12,19 +11,20 @@ use Rattle.exhibits_lists.specs.declared.Parsed.the-variants.{Bad, Is}
 use Rattle.exhibits_lists.specs.declared.Row.{Row}
 use Rattle.exhibits_lists.specs.Lists.{askedOf, bodyOf, number, numberOf, rowOf}
 use Rattle.claims.proofs.Determined.{One, one}
+use Rattle.claims.proofs.DeterminedWriting.{one-put, OnePut}
 
 -- phrases, words
-pub put-measure : (h : Held) (f : ℕ) (numbers : List ℤ) → One (wrote h (measureText f numbers))
-put-measure h f numbers = one
+pub put-measure : (d : List ℕ) (at f : ℕ) (numbers : List ℤ) → OnePut d at (measureText f numbers)
+put-measure d at f numbers = one-put d at (measureText f numbers)
 
-pub put-words : (h : Held) (kind : ℕ) (numbers : List ℤ) → One (wrote h (wordsText kind numbers))
-put-words h kind numbers = one
+pub put-words : (d : List ℕ) (at kind : ℕ) (numbers : List ℤ) → OnePut d at (wordsText kind numbers)
+put-words d at kind numbers = one-put d at (wordsText kind numbers)
 
-pub put-kind : (h : Held) (kind : ℕ) → One (wrote h (kindText kind))
-put-kind h kind = one
+pub put-kind : (d : List ℕ) (at kind : ℕ) → OnePut d at (kindText kind)
+put-kind d at kind = one-put d at (kindText kind)
 
-pub put-refusal : (h : Held) (n : ℕ) → One (wrote h (refusalText n))
-put-refusal h n = one
+pub put-refusal : (d : List ℕ) (at n : ℕ) → OnePut d at (refusalText n)
+put-refusal d at n = one-put d at (refusalText n)
 
 -- lists
 abbrev parsed-of : Option ℕ → Parsed

@@ -1,9 +1,9 @@
 -- The functions that write: any two results that a contract permits are equal. A put answers a place and leaves a buffer, both as one
 -- definition says; a writer answers and leaves the output as `Writes` says.
-use Prim.Native.Nat.{_+_, ℕ}
+use Prim.Native.Nat.{ℕ}
 use mathlib.Core.Path.{_∙_, _≡_, ap, sym}
 use mathlib.Core.List.{[], _++_, _∷_, List}
-use mathlib.Core.Bool.{Bool, cond}
+use mathlib.Core.Bool.{Bool}
 use lib.IntN.{natAbs, ℤ}
 use lib.ListN.{take}
 use Rattle.address.specs.declared.Talker.{Talker}
@@ -27,10 +27,9 @@ use Rattle.frame.specs.Body.{talkerText}
 use Rattle.frame.specs.Written.{faultAt, refused, Writes}
 use Rattle.kind_gsv.specs.declared.Entry.{Entry}
 use Rattle.kind_gsa.specs.declared.Gsa.{Gsa}
-use Rattle.form.specs.Wrong.{nearOf}
 use Rattle.kind_gsv.specs.declared.Gsv.{Gsv}
 use Rattle.kind_gsa.specs.Row.{gsaBody, gsaWrong}
-use Rattle.kind_gsv.specs.Writing.{gsvBody, gsvFault}
+use Rattle.kind_gsv.specs.Writing.{firstIn, gsvBody, gsvFault}
 use Rattle.kind_gsv.specs.Blank.{isBlank}
 use Rattle.kind_pir_code.specs.Command.{pirerBody}
 use Rattle.kind_gga.specs.declared.Gga.{Gga}
@@ -274,9 +273,5 @@ sky-mark seen used n = (one, one)
 pub is-blank : (e : Entry) → One (isBlank e)
 is-blank e = one
 
-pub entry-wrong : (used : Bool) (e : Entry) (n rest : ℕ)
-    → One
-    (cond used (nearOf n (outside 1 99 (e .number)) (nearOf (n + 1) (rangeWrong 0 90 (e .elevation .there) (e .elevation .value))
-    (nearOf (n + 2) (rangeWrong 0 359 (e .azimuth .there) (e .azimuth .value))
-    (nearOf (n + 3) (rangeWrong 0 99 (e .signal .there) (e .signal .value)) rest)))) rest)
+pub entry-wrong : (used : Bool) (e : Entry) (n rest : ℕ) → One (firstIn used n e rest)
 entry-wrong used e n rest = one

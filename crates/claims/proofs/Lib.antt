@@ -25,3 +25,9 @@ pub mod Alone
 pub mod ReadAgain
 pub mod SkyAgain
 pub mod AllOrNone
+pub mod OneForm
+pub mod OneFormKinds
+pub mod WrittenAgain
+pub mod Instances
+pub mod DeterminedParts
+pub mod Contracts

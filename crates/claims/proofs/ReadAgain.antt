@@ -70,7 +70,7 @@ written-right (S.Ea r) w h = (no-fault _ (w .0), w .1)
 written-right (S.Refused n f) w h = absurd (h refl)
 
 -- The arrays of GSA and GSV have all their places; so they have in a record that numbers say.
-abbrev Full : Sentence → Type 0
+abbrev pub Full : Sentence → Type 0
 Full (S.Gga t r) = Unit {0}
 Full (S.Gll t r) = Unit {0}
 Full (S.Gsa t r) = length (r .satellites) ≡ 12
@@ -107,7 +107,7 @@ full-at (Maker P.Sa) n = tt
 full-at (Maker P.Ea) n = tt
 full-at Unknown n = tt
 
-full-record : (kind : ℕ) (n : List ℤ) → Full (recordAt kind n)
+pub full-record : (kind : ℕ) (n : List ℤ) → Full (recordAt kind n)
 unfolding recordAt
 full-record kind n = go (ltb (length n) (countOf kind))
   where
@@ -116,7 +116,7 @@ full-record kind n = go (ltb (length n) (countOf kind))
     go false = full-at (addressAt kind (whole .at n 0)) n
 
 -- Its own line reads as it.
-body-back : (s : Sentence) → CanBeWritten s → Full s → (kindOf s ≡ 0 → ⊥) → readLine (asLine (recordBody s)) ≡ s
+pub body-back : (s : Sentence) → CanBeWritten s → Full s → (kindOf s ≡ 0 → ⊥) → readLine (asLine (recordBody s)) ≡ s
 body-back (S.Gga t r) w n h = N.gga .read-write t r (w .0) (short (recordBody (S.Gga t r)) (w .1))
 body-back (S.Gll t r) w n h = N.gll .read-write t r (w .0) (short (recordBody (S.Gll t r)) (w .1))
 body-back (S.Gsa t r) w n h = TGsa.read-write t r n (w .0) (short (recordBody (S.Gsa t r)) (w .1))

@@ -146,11 +146,11 @@ AllHold [] = Unit {0}
 AllHold (r ∷ rs) = Holds r × AllHold rs
 
 -- The ones of a number, digit by digit from the lowest.
-abbrev onesBy : ℕ → ℕ → ℕ
+abbrev pub onesBy : ℕ → ℕ → ℕ
 onesBy zero n = ones n
 onesBy (suc k) n = n % 2 + onesBy k (n / 2)
 
-ones-by : (k n : ℕ) → ones n ≡ onesBy k n
+pub ones-by : (k n : ℕ) → ones n ≡ onesBy k n
 ones-by zero n = refl
 ones-by (suc k) n = ones-step n ∙ ap (λ (x : ℕ). n % 2 + x) (ones-by k (n / 2))
 

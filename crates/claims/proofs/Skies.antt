@@ -96,9 +96,9 @@ group-same-bytes g t es e {out} {answer} {left} room w =
 pub read-group : (s : List ℕ) (a b : Sky) → a ≡ skyOf (Group.groupOf s) → b ≡ skyOf (Group.groupOf s) → a ≡ b
 read-group s a b p q = p ∙ sym q
 
-pub write-group : (t : Talker) (r : Table) (out : List ℕ) (a b : Written) (l m : List ℕ) → WritesGroup t r out a l
+pub write-group : (out : List ℕ) (t : Talker) (r : Table) (a b : Written) (l m : List ℕ) → WritesGroup t r out a l
     → WritesGroup t r out b m → (a ≡ b) × (l ≡ m)
-write-group t r out a b l m v w = (v .answers ∙ sym (w .answers), v .leaves ∙ sym (w .leaves))
+write-group out t r a b l m v w = (v .answers ∙ sym (w .answers), v .leaves ∙ sym (w .leaves))
 
 pub table-fault : (r : Table) (a b : Written) → a ≡ tableFault r → b ≡ tableFault r → a ≡ b
 table-fault r a b p q = p ∙ sym q

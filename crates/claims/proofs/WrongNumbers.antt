@@ -83,7 +83,7 @@ pub record GgaMarks (n : List ℤ) : Type 0 where
   pub station : isMark (numberAt n 17) ≡ true
 
 -- A form whose spoilt value is wrong has a mark where it has no fault.
-mark-of : {X R : Type 0} (spoilt : X) (a : Layout X) (to : Bool × X → R) (fault : R → ℕ) → fault (to (false, spoilt)) ≡ 1
+pub mark-of : {X R : Type 0} (spoilt : X) (a : Layout X) (to : Bool × X → R) (fault : R → ℕ) → fault (to (false, spoilt)) ≡ 1
     → (l : List ℤ) (p : ℕ) → fault (to (marked spoilt a .at l p)) ≡ 0 → isMark (numberAt l p) ≡ true
 mark-of spoilt a to fault w l p e = go (isMark (numberAt l p)) refl
   where
