@@ -5,7 +5,8 @@ use mathlib.Core.Path.{_≡_, refl, sym, _∙_, ap}
 use mathlib.Core.List.{List}
 use mathlib.Core.Bool.{Bool}
 use mathlib.Core.Option.{Option, none, some}
-use lib.ListN.{drop}
+use lib.ListN.{drop, set}
+use lib.Seq.{sets}
 use denote.Ref.{RefT, now}
 use Rattle.digits.specs.Hex.{hexDigit, hexOf}
 use Rattle.digits.specs.Same.{same}
@@ -14,6 +15,7 @@ use Rattle.digits.specs.Means.{num}
 use Rattle.digits.specs.declared.Num.{Num}
 use Rattle.digits.specs.declared.Num.the-variants.{Is, Bad}
 use Rattle.line.specs.Line.{lineRefusal}
+use Rattle.line.specs.Ends.{endsIn, passing}
 use Rattle.lines.specs.Cut.{lineWidth}
 use Rattle.address.specs.declared.Address.{Address}
 use Rattle.address.specs.Address.{addressOf}
@@ -84,6 +86,12 @@ digits l lo hi = read
 -- line, lines
 pub line-refusal : (l : List ℕ) (r s : ℕ) → r ≡ lineRefusal l → s ≡ lineRefusal l → r ≡ s
 line-refusal l r s = equation
+
+pub line-store : (p : List ℕ) (n i : ℕ) → One (set p n i)
+line-store p n i = one
+
+pub line-pass : (l p : List ℕ) → One (passing l) × One (sets p 0 (endsIn l))
+line-pass l p = (one, one)
 
 pub line-end : (l : List ℕ) (at r s : ℕ) → r ≡ at + lineWidth (drop at l) → s ≡ at + lineWidth (drop at l) → r ≡ s
 line-end l at r s = equation

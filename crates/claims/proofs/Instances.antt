@@ -15,7 +15,7 @@ use Rattle.digits.specs.Hex.{hexDigit, hexOf, hexValue}
 use Rattle.digits.specs.Pairs.{pairAt}
 use Rattle.digits.specs.Plain.{fractionText, numberText, plainText, widthOf}
 use Rattle.digits.specs.Same.{same}
-use Rattle.line.specs.Line.{bodyByte, bodyBytes, endForm, endGives, lineForm, lineRefusal, noneOf, xorFrom, xorOf}
+use Rattle.line.specs.Line.{bodyByte, bodyBytes, edgeForm, endForm, endGives, lineForm, lineRefusal, noneOf, xorFrom, xorOf}
 use Rattle.address.specs.Address as A
 use Rattle.fields.specs.Fields.{fieldsOf, joinFields, onto}
 use Rattle.frame.specs.Written.{faultAt, leftOf, refused, writtenOf, wrote}
@@ -146,7 +146,7 @@ unfolding instances
 every-kind = refl
 
 pub instances-hold : AllHold instances
-unfolding same hexDigit hexOf hexValue noneOf bodyByte bodyBytes xorFrom xorOf endForm lineForm endGives lineRefusal A.lookUp A.knownOf
+unfolding same hexDigit hexOf hexValue noneOf bodyByte bodyBytes xorFrom xorOf endForm edgeForm lineForm endGives lineRefusal A.lookUp A.knownOf
     A.commaFree A.addressOf onto fieldsOf joinFields writtenOf leftOf faultAt maybeOf answerBy readBy faultBy fieldsFor emptyWrong
     outside rangeWrong signedWrong nearOf hexFrom hexDigitsOf printHex satellitesOf satellitesForm isPortMask portWrong isWhole wholeOf
     signedOf laid pirsrRow pirsaRow readBody readLine instances isDigit digitsFrom digitsOf printFixed findIn pairAt widthOf plainText
@@ -178,7 +178,7 @@ counted gps glonass = record { no = 0; line = 0; field = 0; gps = gps; glonass =
 
 pub p10-answered : (after 28 .answer ≡ wrote 28) × (after 28 .out ≡ ascii "$PIRSA,7FFEFFFF,FFFFFE,*04\r\n")
     × (after 28 .numbers ≡ left) × (after 27 .answer ≡ refused 8 1 0)
-unfolding same hexDigit hexOf hexValue noneOf bodyByte bodyBytes xorFrom xorOf endForm lineForm endGives lineRefusal A.lookUp A.knownOf
+unfolding same hexDigit hexOf hexValue noneOf bodyByte bodyBytes xorFrom xorOf endForm edgeForm lineForm endGives lineRefusal A.lookUp A.knownOf
     A.commaFree A.addressOf onto fieldsOf joinFields writtenOf leftOf faultAt maybeOf answerBy readBy faultBy fieldsFor emptyWrong
     outside rangeWrong signedWrong nearOf hexFrom hexDigitsOf printHex satellitesOf satellitesForm isPortMask portWrong isWhole wholeOf
     signedOf laid pirsrRow pirsaRow readBody readLine outcomeOf portGood settingsGood settingsLayout said stepped

@@ -12,7 +12,7 @@ use Rattle.digits.specs.Ascii.{ascii}
 use Rattle.digits.specs.Decimal.{digitsFrom, digitsOf, isDigit}
 use Rattle.digits.specs.Hex.{hexDigit, hexOf, hexValue}
 use Rattle.digits.specs.Same.{same}
-use Rattle.line.specs.Line.{asLine, bodyByte, bodyBytes, endForm, endGives, lineForm, lineRefusal, noneOf, xorFrom, xorOf}
+use Rattle.line.specs.Line.{asLine, bodyByte, bodyBytes, edgeForm, endForm, endGives, lineForm, lineRefusal, noneOf, xorFrom, xorOf}
 use Rattle.form.specs.declared.got.GotInt.{GotInt}
 use Rattle.form.specs.Got.{gotIntOf, maybeOf, withinOf}
 use Rattle.form_position.specs.Angle.{angleOf, joinedOf, latitudeOf, letteredOf, longitudeOf, sidedOf, wrongInt}
@@ -155,7 +155,7 @@ ones-by zero n = refl
 ones-by (suc k) n = ones-step n ∙ ap (λ (x : ℕ). n % 2 + x) (ones-by k (n / 2))
 
 pub rows-hold : AllHold rows
-unfolding rows same hexDigit hexOf noneOf bodyByte bodyBytes xorFrom xorOf endForm lineForm endGives lineRefusal isDigit digitsFrom
+unfolding rows same hexDigit hexOf noneOf bodyByte bodyBytes xorFrom xorOf endForm edgeForm lineForm endGives lineRefusal isDigit digitsFrom
     digitsOf withinOf joinedOf angleOf latitudeOf longitudeOf letteredOf sidedOf pairAt leapYear daysIn isDate dateAt fullYear dateSix
     minus bareOf zoneOf zoneAt zoneTwo bind lookUp knownOf commaFree addressOf onto fieldsOf fixedOf maybeOf before cutRest cutLines
     readFrom readLines readBy answerBy faultBy fieldsFor nearOf firstWrong firstOf entryAt entryFrom entriesOf gsvRow gsvWith
@@ -218,7 +218,7 @@ rows-hold = (
 
 -- A step that replies and alters nothing is not the step: row P10 leaves another mask than the one at start.
 pub step-alters : ((s : Settings) (p : ℕ) (l : List ℕ) (room : ℕ) → settingsAfter s (outcomeOf s p l) room ≡ s) → ⊥
-unfolding same hexDigit hexOf hexValue noneOf bodyByte bodyBytes xorFrom xorOf endForm lineForm endGives lineRefusal lookUp knownOf
+unfolding same hexDigit hexOf hexValue noneOf bodyByte bodyBytes xorFrom xorOf endForm edgeForm lineForm endGives lineRefusal lookUp knownOf
     commaFree addressOf onto fieldsOf maybeOf nearOf readBy answerBy faultBy fieldsFor readBody readLine joinFields hexFrom hexDigitsOf
     printHex satellitesOf satellitesForm isPortMask emptyWrong outside rangeWrong signedWrong portWrong pirsrRow pirsaRow portGood
     settingsGood outcomeOf faultAt writtenOf

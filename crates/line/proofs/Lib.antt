@@ -1,5 +1,4 @@
 pub mod Laws
 pub mod Form
 pub mod Xor
-pub mod Table
 pub mod Ending

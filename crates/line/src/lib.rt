@@ -1,36 +1,20 @@
 // The line rule, for every slice of bytes, sound or damaged.
 ghost use mathlib.Core.Path.{_≡_};
-ghost use Prim.Native.Nat.{_<_};
 ghost use mathlib.Core.Bool.{cond};
-ghost use lib.ListN.{length, getD, set};
+ghost use lib.ListN.{length, set};
 ghost use lib.Seq.{sets};
-ghost use Rattle.line.specs.Line.{bodyBytes, xorOf, edgeForm, endForm, endGives, lineRefusal};
-ghost use Rattle.line.specs.Ends.{endsFrom, endsIn};
+ghost use Rattle.line.specs.Line.{bodyByte, bodyBytes, xorOf, edgeForm, endForm, endGives, lineRefusal};
+ghost use Rattle.line.specs.Ends.{endsFrom, endsIn, passing};
 
-// Which bytes may stand in a body: 1 where a byte may, sixteen bytes to a row.
-const BODY: [u8; 256] = *b"\
-    0000000000000000\
-    0000000000000000\
-    1011011111011111\
-    1111111111111111\
-    1111111111111111\
-    1111111111110101\
-    1111111111111111\
-    1111111111111100\
-    0000000000000000\
-    0000000000000000\
-    0000000000000000\
-    0000000000000000\
-    0000000000000000\
-    0000000000000000\
-    0000000000000000\
-    0000000000000000";
-
-// What `table` has for the byte `b`.
-fn mark(table: &[u8; 256], b: u8) -> u8
-    ensures { λ r. ⌜ (r ≡ getD (now (table .entry)) b 0) × (b < 256) ⌝ }
+// Whether `b` may stand in a body. Digits, capitals, the comma and the point are found with the first test.
+fn may_stand(b: u8) -> bool
+    ensures { λ r. ⌜ r ≡ bodyByte b ⌝ }
 {
-    table[b as usize]
+    if (b'+' <= b) & (b <= b'[') {
+        return true;
+    }
+    let other = (b != b'!') & ((b != b'\\') & ((b != b'^') & (b != b'~')));
+    (b' ' <= b) & ((b <= b'~') & ((b != b'$') & ((b != b'*') & other)))
 }
 
 // Stores `i` at place `n` of `p`, if it has one.
@@ -55,14 +39,13 @@ fn scan(s: &[u8], p: &mut [usize]) -> Found
     ensures { λ r. ⌜ (r .good ≡ bodyBytes (now (s .entry))) × (r .xor ≡ xorOf (now (s .entry))) ⌝ }
     ensures { λ r. ⌜ (r .count ≡ length (endsFrom 0 (now (s .entry)))) × (now (p .exit) ≡ sets (now (p .entry)) 0 (endsFrom 0 (now (s .entry)))) ⌝ }
 {
-    let table = BODY;
-    let mut marks = b'1';
+    let mut good = true;
     let mut xor: u8 = 0;
     let mut n: usize = 0;
     let mut i: usize = 0;
     while i < s.len() {
         let b = s[i];
-        marks = marks & mark(&table, b);
+        good = good & may_stand(b);
         xor = xor ^ b;
         store(p, n, i);
         n += (b == b',') as usize;
@@ -70,7 +53,7 @@ fn scan(s: &[u8], p: &mut [usize]) -> Found
     }
     store(p, n, i);
     Found {
-        good: marks == b'1',
+        good,
         xor,
         count: n + 1,
     }
@@ -132,8 +115,7 @@ pub struct Passed {
 //
 //     $GPGSV,1,1,00*79    0, and four fields that end at 5, 7, 9 and 12 of the body
 pub fn pass(line: &[u8], ends: &mut [usize]) -> Passed
-    ensures { λ r. ⌜ r .no ≡ lineRefusal (now (line .entry)) ⌝ }
-    ensures { λ r. ⌜ r .count ≡ length (endsIn (now (line .entry))) ⌝ }
+    ensures { λ r. ⌜ r ≡ passing (now (line .entry)) ⌝ }
     ensures { λ _. ⌜ now (ends .exit) ≡ sets (now (ends .entry)) 0 (endsIn (now (line .entry))) ⌝ }
 {
     if !edges(line) {

@@ -1,24 +1,28 @@
 -- `pass` meets its contract: without its edges a line has no fields and is refused; with them its body and its digits decide.
-use Prim.Native.Nat.{_≤_}
-use mathlib.Core.Path.{_≡_, sym, _∙_}
+use Prim.Native.Nat.{_≤_, ℕ}
+use mathlib.Core.Path.{_≡_, ap₂, sym, _∙_}
 use mathlib.Core.Bool.{true}
 use native.Mathlib.Omega.{arith}
 use borrow.Author.Needs.{needs}
 use borrow.Author.Tests.{not-true, not-false}
 use lib.ListN.{length}
 use Rattle.digits.proofs.Parts.{rest}
-use Rattle.line.specs.Line.{bodyOf, edgeForm}
+use Rattle.line.specs.declared.Passed.{Passed}
+use Rattle.line.specs.Line.{bodyOf, edgeForm, lineRefusal}
 use Rattle.line.specs.Ends.{endsFrom}
 use Rattle.line.proofs.Laws.{body-part, edges-seven, ends-none, ends-there, line-edges, line-no-edges}
 use Rattle.line.proofs.Ending.{sets-same}
 use Rattle.line.proofs.pass.Statement.{statement}
 use Rattle.line.proofs.pass.Tie as tie
 
+abbrev answer : ℕ → ℕ → Passed
+answer n count = record { no = n; count = count }
+
 returns : tie.Need-returns
 returns c =
     let l = c .before .before .before .before .args .line .now in
     let e = sym (c .before .edges .ensures) ∙ not-true _ (c .if1 .taken) in
-    (sym (line-no-edges l e), (rw (ends-none l e), rw (ends-none l e)))
+    (rw (line-no-edges l e, ends-none l e), rw (ends-none l e))
 
 -- A line that has its edges is long enough.
 has-edges : (c : tie.Else1) → edgeForm (c .before .before .before .before .args .line .now) ≡ true
@@ -59,10 +63,10 @@ returns-2 c =
     let xor = d .scan .ensures .0 .1 in
     let count = d .scan .ensures .1 .0 in
     let ends = d .scan .ensures .1 .1 in
-    let gives = c .before .end-gives .ensures in (
-      c .judged .ensures ∙ rw (rw body-part at good, rw rest at gives, rw body-part at xor) (sym (line-edges l e)),
-      (rw (ends-there l e) (rw body-part at count), rw (ends-there l e) (rw body-part at ends)),
-    )
+    let gives = c .before .end-gives .ensures in
+    let said : c .judged .result ≡ lineRefusal l = c .judged .ensures
+    ∙ rw (rw body-part at good, rw rest at gives, rw body-part at xor) (sym (line-edges l e)) in
+    (ap₂ answer said (rw (ends-there l e) (rw body-part at count)), rw (ends-there l e) (rw body-part at ends))
 
 pub pass-spec : {M : Type 1} → statement M
 pass-spec =

@@ -1,5 +1,4 @@
--- `scan` meets its contract: what was found so far, with what is left, gives what the whole gives. Its table is the one that the
--- definition of a body byte fills, as antt computes.
+-- `scan` meets its contract: what was found so far, with what is left, gives what the whole gives.
 use Prim.Native.Nat.{ℕ, _≤_, _+_, _-_}
 use mathlib.Core.Path.{_≡_, refl, sym, _∙_, ap}
 use mathlib.Core.List.{List}
@@ -9,58 +8,48 @@ use borrow.Author.Needs.{needs}
 use lib.ListN.{length, drop, getD, length-set, set}
 use lib.Dec.{eqb}
 use lib.Seq.{sets}
-use Rattle.line.specs.Line.{noneOf, bodyByte, bodyBytes, xorFrom, xorOf}
+use Rattle.line.specs.Line.{bodyBytes, xorFrom, xorOf}
 use Rattle.line.specs.Ends.{endsFrom}
 use Rattle.line.proofs.Laws.{good-next, xor-next, good-end, xor-end}
 use Rattle.line.proofs.Ending.{count-end, count-next, mark-most, set-same, store-end, store-next}
-use Rattle.line.proofs.Table.{marked, mark-at, mark-and}
 use Rattle.line.proofs.scan.Statement.{statement}
 use Rattle.line.proofs.scan.Tie as tie
 
 abbrev Inv-loop : tie.InvT-loop
-Inv-loop s p₀ table marks₀ xor₀ n₀ i₀ p marks xor n i =
-    (i ≤ length s) × (marks ≡ marked (eqb marks 49)) × (bodyBytes s ≡ (eqb marks 49 && bodyBytes (drop i s)))
+Inv-loop s p₀ good₀ xor₀ n₀ i₀ p good xor n i =
+    (i ≤ length s) × (bodyBytes s ≡ (good && bodyBytes (drop i s)))
     × (xorOf s ≡ xorFrom xor (drop i s)) × (n ≤ i) × (length p ≡ length p₀)
     × (n + length (endsFrom i (drop i s)) ≡ length (endsFrom 0 s)) × (sets p n (endsFrom i (drop i s)) ≡ sets p₀ 0 (endsFrom 0 s))
 
 abbrev μ-loop : tie.MeasureT-loop
-μ-loop s p₀ table marks₀ xor₀ n₀ i₀ p marks xor n i = length s - i
+μ-loop s p₀ good₀ xor₀ n₀ i₀ p good xor n i = length s - i
 
 loop-holds : tie.Need-loop-holds Inv-loop μ-loop
 unfolding xorOf
-loop-holds c = (omega arith, refl, refl, refl, omega arith, refl, omega arith, refl)
-
--- what the code's table says of the byte read
-says : (c : tie.After-mark Inv-loop μ-loop) → c .mark .result
-    ≡ marked (bodyByte (getD (c .before .before .before .before .before .before .before .args .s .now)
-    (c .before .before .before .before .loop .i) 0))
-unfolding bodyByte noneOf
-says c = c .mark .ensures .0 ∙ mark-at bodyByte 256 _ (c .mark .ensures .1)
+loop-holds c = (omega arith, refl, refl, omega arith, refl, omega arith, refl)
 
 loop-again : tie.Need-loop-again Inv-loop μ-loop
 loop-again c =
-    let b2 = c .before .before in let b4 = b2 .before .before in let b8 = b4 .before .before .before .before in
-    let a = b8 .before .before .before .args in
+    let b2 = c .before .before in let b4 = b2 .before .before in let b7 = b4 .before .before .before in
+    let a = b7 .before .before .before .args in
     let s = a .s .now in
-    let l = b8 .loop in
-    let h = b4 .before .before .before .loop-test .taken in
-    let m = mark-and (l .marks) (b4 .mark .result) (bodyByte (getD s (l .i) 0)) (l .inv .1) (says b4) in
+    let l = b7 .loop in
+    let h = b4 .before .before .loop-test .taken in
     let e = b2 .store .ensures in (
       omega arith,
-      m .0,
-      rw (m .1) (l .inv .2 ∙ good-next s (l .i) h (eqb (l .marks) 49)),
-      l .inv .3 ∙ xor-next s (l .i) h (l .xor),
+      rw (b4 .may-stand .ensures) (l .inv .1 ∙ good-next s (l .i) h (l .good)),
+      l .inv .2 ∙ xor-next s (l .i) h (l .xor),
       omega (arith, mark-most (eqb (getD s (l .i) 0) 44)),
-      set-same (l .p) _ (a .p .now) (l .n) (l .i) e (l .inv .5),
+      set-same (l .p) _ (a .p .now) (l .n) (l .i) e (l .inv .4),
       omega (arith, count-next (l .p) (l .n) s (l .i) h),
-      rw e (store-next (l .p) (l .n) s (l .i) h ∙ l .inv .7),
+      rw e (store-next (l .p) (l .n) s (l .i) h ∙ l .inv .6),
     )
 
 same-length : tie.Need-same-length Inv-loop μ-loop
 same-length c =
     let b2 = c .before .before in
     let l = b2 .before .before .before .loop in
-    set-same (l .p) _ (b2 .before .before .before .before .before .before .args .p .now) (l .n) (l .i) (b2 .store2 .ensures) (l .inv .5)
+    set-same (l .p) _ (b2 .before .before .before .before .before .before .args .p .now) (l .n) (l .i) (b2 .store2 .ensures) (l .inv .4)
 
 returns : tie.Need-returns Inv-loop μ-loop
 returns c =
@@ -69,17 +58,17 @@ returns c =
     let s = b4 .before .before .before .before .args .s .now in
     let l = b4 .before .loop in
     let h = b4 .loop-test .left in (
-      (sym (l .inv .2 ∙ good-end _ _ h _), sym (l .inv .3 ∙ xor-end _ _ h _)),
+      (sym (l .inv .1 ∙ good-end _ _ h _), sym (l .inv .2 ∙ xor-end _ _ h _)),
       (
         omega (arith, count-end (l .p) (l .n) s (l .i) h),
-        b2 .store2 .ensures ∙ (sym (store-end (l .p) (l .n) s (l .i) h) ∙ l .inv .7),
+        b2 .store2 .ensures ∙ (sym (store-end (l .p) (l .n) s (l .i) h) ∙ l .inv .6),
       ),
     )
 
 add-n : tie.Need-add-n Inv-loop μ-loop
 add-n c =
-    let b8 = c .before .before .before .before .before .before .before .before in
-    omega (arith, mark-most (eqb (getD (b8 .before .before .before .args .s .now) (b8 .loop .i) 0) 44))
+    let b7 = c .before .before .before .before .before .before .before in
+    omega (arith, mark-most (eqb (getD (b7 .before .before .before .args .s .now) (b7 .loop .i) 0) 44))
 
 pub scan-spec : {M : Type 1} → statement M
 scan-spec =

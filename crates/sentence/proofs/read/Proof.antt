@@ -3,6 +3,7 @@ use Prim.Native.Nat.{_≤_}
 use mathlib.Core.Path.{_∙_, _≡_, ap, sym}
 use native.Mathlib.Omega.{arith}
 use lib.ListN.{length}
+use Rattle.line.specs.declared.Passed.{Passed}
 use Rattle.line.specs.Line.{lineRefusal}
 use Rattle.line.proofs.Form.{passes-long}
 use Rattle.fields.proofs.Passing.{pass-placed}
@@ -18,8 +19,11 @@ use Rattle.sentence.proofs.read.Statement.{statement}
 use Rattle.sentence.proofs.read.Tie as tie
 
 -- A line that passes is long enough, and its fields are placed.
+number : (c : tie.After-pass) → c .pass .result .no ≡ lineRefusal (c .before .before .before .args .line .now)
+number c = ap (λ (r : Passed). r .no) (c .pass .ensures .0)
+
 passes : (c : tie.Else1) → lineRefusal (c .before .before .before .before .before .before .args .line .now) ≡ 0
-passes c = sym (c .before .before .before .pass .ensures .0) ∙ c .if1 .left
+passes c = sym (number (c .before .before .before)) ∙ c .if1 .left
 
 long : (c : tie.Else1) → 7 ≤ length (c .before .before .before .before .before .before .args .line .now)
 long c = passes-long _ (passes c)
@@ -29,7 +33,7 @@ returns c =
     let b = c .before .before .before .before in
     let l = b .before .before .before .args .line .now in
     refused-as _ _ _ (readLine l) (c .refuse .ensures) (c .before .if1 .taken)
-    (rw (b .pass .ensures .0) (sym (refused l (rw (b .pass .ensures .0) at (c .before .if1 .taken)))))
+    (rw (number b) (sym (refused l (rw (number b) at (c .before .if1 .taken)))))
 
 sub-end : tie.Need-sub-end
 sub-end c = omega (arith, long c)
@@ -48,7 +52,7 @@ read-body-requires c κs =
     let b = c .before .before .before in
     let l = b .before .before .before .before .before .before .args .line .now in
     let e = b .before .before .before .pass .ensures in
-    rw body-part (pass-placed l _ _ _ (passes b) (e .1 .0) (e .1 .1))
+    rw body-part (pass-placed l _ _ _ (passes b) (ap (λ (r : Passed). r .count) (e .0)) (e .1))
 
 returns-2 : tie.Need-returns-2
 returns-2 c =
