@@ -21,7 +21,7 @@ def test_commands_give_what_is_shown():
 
 
 def test_files_are_there():
-    named = set(re.findall(r"\b((?:docs|tools|tests|samples|crates|rust)/[\w./-]*\w)", README))
+    named = set(re.findall(r"\b((?:docs|tools|tests|samples|crates|rust|include)/[\w./-]*\w)", README))
     assert len(named) > 8
     for path in named:
         assert (ROOT / path).exists(), path

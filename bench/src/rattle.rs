@@ -51,7 +51,7 @@ pub fn write(record: &Numbers, out: &mut [u8]) -> usize {
 
 /// Reads a group to its numbers: number, line and field of the refusal, or zeros.
 pub fn read_group(s: &[u8], sky: &mut [i64; GROUP]) -> (u8, usize, usize) {
-    told(numbers::read_group(s, sky).err())
+    told(numbers::read_group(s, sky).err().map(Refusal::from))
 }
 
 /// The settings of the receiver at start.

@@ -1,7 +1,8 @@
-//! The proved functions of `crates/host`, each with the one safe function that calls it; those of the index are in ffi_index.rs. Nothing
-//! checks these declarations against the Rattle source: a slice is passed as a pointer and a length, a `&mut` of a number as a pointer.
+//! The proved functions of `crates/host`, each with the one safe function that calls it; those of the index are in ffi_index.rs. A slice is
+//! passed as a pointer and a length, a `&mut` of a number as a pointer. No compiler checks these declarations against the Rattle source:
+//! tests/test_header.py does.
 
-use crate::refusal::{refused, Refusal};
+use crate::refusal::{group_refused, refused, GroupRefusal, Refusal};
 
 extern "C" {
     fn castanwel_line_refusal(line: *const u8, line_len: usize) -> u8;
@@ -83,6 +84,7 @@ extern "C" {
 /// assert_eq!(castanwel::line_refusal(b"$GPGSV,1,1,00*79\r\n"), None);
 /// assert_eq!(castanwel::line_refusal(b"$GPGSV,1,1,00*78\r\n").unwrap().number, 2);
 /// ```
+#[must_use]
 pub fn line_refusal(line: &[u8]) -> Option<Refusal> {
     // SAFETY: pointer and length are of one slice that lives through the call; the places are this function's own.
     let number = unsafe { castanwel_line_refusal(line.as_ptr(), line.len()) };
@@ -98,6 +100,7 @@ pub fn line_refusal(line: &[u8]) -> Option<Refusal> {
 /// assert_eq!(castanwel::numbers::next_line(log, 0), (true, 5, 23));
 /// assert_eq!(castanwel::numbers::next_line(log, 23), (false, 23, 26));
 /// ```
+#[must_use]
 pub fn next_line(s: &[u8], at: usize) -> (bool, usize, usize) {
     let (mut start, mut end) = (0, 0);
     // SAFETY: pointer and length are of one slice that lives through the call; the places are this function's own.
@@ -112,6 +115,7 @@ pub fn next_line(s: &[u8], at: usize) -> (bool, usize, usize) {
 /// assert_eq!(castanwel::numbers::feed(0, b'$'), (1, 0));
 /// assert_eq!(castanwel::numbers::feed(17, b'\n'), (0, 18));
 /// ```
+#[must_use]
 pub fn feed(held: usize, b: u8) -> (usize, usize) {
     let mut line = 0;
     // SAFETY: pointer and length are of one slice that lives through the call; the places are this function's own.
@@ -127,6 +131,7 @@ pub fn feed(held: usize, b: u8) -> (usize, usize) {
 /// assert_eq!(castanwel::numbers::places(b"GPGSV,1,1,00", &mut ends), 4);
 /// assert_eq!(ends, [5, 7, 9, 12]);
 /// ```
+#[must_use]
 pub fn places(body: &[u8], ends: &mut [usize]) -> usize {
     // SAFETY: pointer and length are of one slice that lives through the call; the places are this function's own.
     unsafe { castanwel_places(body.as_ptr(), body.len(), ends.as_mut_ptr(), ends.len()) }
@@ -157,6 +162,7 @@ pub fn field(line: &[u8], n: usize) -> Result<&[u8], Refusal> {
 /// let twelve_fields = b"$GPGGA,000008.00,,,,,0,,,,,,*40\r\n";
 /// assert_eq!(castanwel::refusal(twelve_fields).unwrap().number, 4);
 /// ```
+#[must_use]
 pub fn refusal(line: &[u8]) -> Option<Refusal> {
     let (mut at_line, mut field) = (0, 0);
     // SAFETY: pointer and length are of one slice that lives through the call; the places are this function's own.
@@ -209,13 +215,13 @@ pub fn write(kind: u32, numbers: &[i64], out: &mut [u8]) -> Result<usize, Refusa
 /// castanwel::numbers::read_group(b"$GPGSV,1,1,01,05,,,*7D\r\n", &mut numbers).unwrap();
 /// assert_eq!(numbers[..9], [0, 1, 5, 0, 0, 0, 0, 0, 0]);
 /// ```
-pub fn read_group(s: &[u8], numbers: &mut [i64]) -> Result<(), Refusal> {
+pub fn read_group(s: &[u8], numbers: &mut [i64]) -> Result<(), GroupRefusal> {
     let (mut line, mut field) = (0, 0);
     // SAFETY: pointer and length are of one slice that lives through the call; the places are this function's own.
     let number = unsafe {
         castanwel_read_group(s.as_ptr(), s.len(), numbers.as_mut_ptr(), numbers.len(), &mut line, &mut field)
     };
-    refused(number, line, field)
+    group_refused(number, line, field)
 }
 
 /// Writes the group of a whole sky, and gives its length. Refused with line and field 0: 3 for a talker that there is not, 5 where
@@ -228,14 +234,14 @@ pub fn read_group(s: &[u8], numbers: &mut [i64]) -> Result<(), Refusal> {
 /// let length = castanwel::numbers::write_group(&numbers, &mut out).unwrap();
 /// assert_eq!(&out[..length], b"$GPGSV,1,1,01,05,,,*7D\r\n");
 /// ```
-pub fn write_group(numbers: &[i64], out: &mut [u8]) -> Result<usize, Refusal> {
+pub fn write_group(numbers: &[i64], out: &mut [u8]) -> Result<usize, GroupRefusal> {
     let (mut length, mut line, mut field) = (0, 0, 0);
     let (pointer, room) = (out.as_mut_ptr(), out.len());
     // SAFETY: pointer and length are of one slice that lives through the call; the places are this function's own.
     let number = unsafe {
         castanwel_write_group(numbers.as_ptr(), numbers.len(), pointer, room, &mut length, &mut line, &mut field)
     };
-    refused(number, line, field)?;
+    group_refused(number, line, field)?;
     Ok(length)
 }
 

@@ -7,6 +7,7 @@ pub const LONGEST: usize = 82;
 
 /// The lines that lie in some bytes.
 #[derive(Clone, Debug)]
+#[must_use = "nothing is looked for before a line is asked for"]
 pub struct Lines<'a> {
     bytes: &'a [u8],
     at: usize,
@@ -51,6 +52,7 @@ impl Finder {
     /// let mut finder = castanwel::Finder::new();
     /// assert_eq!(finder.push(b'\n'), None);
     /// ```
+    #[must_use]
     pub fn new() -> Finder {
         Finder { kept: [0; LONGEST], held: 0 }
     }
@@ -65,6 +67,7 @@ impl Finder {
     /// }
     /// assert_eq!(found, [b"$PIRER,0*40\r\n"]);
     /// ```
+    #[must_use = "the line is given once"]
     pub fn push(&mut self, byte: u8) -> Option<&[u8]> {
         let (held, line) = ffi::feed(self.held, byte);
         self.held = held;

@@ -71,6 +71,7 @@ impl Index {
     /// let index = castanwel::Index::new();
     /// assert!(index.bytes().is_empty() && index.entries().is_empty());
     /// ```
+    #[must_use]
     pub fn new() -> Index {
         Index::default()
     }
@@ -114,6 +115,7 @@ impl Index {
     /// let index = castanwel::Index::from_bytes([2, 0, 18]).unwrap();
     /// assert_eq!(index.bytes(), [2, 0, 18]);
     /// ```
+    #[must_use]
     pub fn bytes(&self) -> &[u8] {
         &self.bytes
     }
@@ -125,6 +127,7 @@ impl Index {
     /// let numbers: Vec<u64> = index.entries().iter().map(|exhibit| exhibit.number).collect();
     /// assert_eq!(numbers, [2, 10]);
     /// ```
+    #[must_use]
     pub fn entries(&self) -> &[Exhibit] {
         &self.entries
     }

@@ -6,6 +6,9 @@ use crate::refusal::Refusal;
 use crate::values::Zone;
 use crate::walk::{cells_of, in_order, put_up, take_down};
 
+/// The length of the longest reply: that of a PIRSA, which always has both masks in all their digits.
+pub const LONGEST_REPLY: usize = 28;
+
 in_order! {
     /// What one port is set to.
     #[derive(Clone, Copy, Debug, PartialEq, Eq, Hash)]
@@ -41,6 +44,7 @@ in_order! {
 /// What a command came to: the length of its reply or its refusal, and the settings as a whole, new, or, where it was refused, the
 /// old.
 #[derive(Clone, Copy, Debug, PartialEq, Eq)]
+#[must_use = "the settings after the command are in it, and its refusal"]
 pub struct Done {
     /// The length of the reply in the output, or the refusal.
     pub reply: Result<usize, Refusal>,
@@ -63,6 +67,17 @@ const NO_PORT: Port = Port { rate: 0, protocol: 0, mask: 0 };
 const BLANK: Settings =
     Settings { ports: [NO_PORT; 2], datum: 0, zone: Zone { minutes: 0 }, gps: 0, glonass: 0, code: 0 };
 
+/// The settings at start.
+///
+/// ```
+/// assert_eq!(castanwel::Settings::default(), castanwel::Settings::start());
+/// ```
+impl Default for Settings {
+    fn default() -> Settings {
+        Settings::start()
+    }
+}
+
 impl Settings {
     /// The settings at start: 4800, protocol 4 and mask 007F on both ports; datum 0; zone 0; all satellites; code 0.
     ///
@@ -70,6 +85,7 @@ impl Settings {
     /// let settings = castanwel::Settings::start();
     /// assert_eq!((settings.ports[0].rate, settings.glonass), (4800, 0xff_ffff));
     /// ```
+    #[must_use]
     pub fn start() -> Settings {
         let mut numbers = [0; SETTINGS];
         ffi::start(&mut numbers).expect("there is room for the settings");
@@ -86,6 +102,7 @@ impl Settings {
     /// assert_eq!(&out[..done.reply.unwrap()], b"$PIRSA,7FFEFFFF,FFFFFE,*04\r\n");
     /// assert_eq!((done.settings.gps, done.settings.glonass), (0x7ffe_ffff, 0xff_fffe));
     /// ```
+    #[must_use = "the settings after the command are in it, and its refusal"]
     pub fn step(self, arrival: u32, line: &[u8], out: &mut [u8]) -> Done {
         let mut numbers = self.numbers();
         let reply = ffi::step(&mut numbers, arrival, line, out);
@@ -109,6 +126,7 @@ impl Settings {
     /// let numbers = castanwel::Settings::start().numbers();
     /// assert_eq!(numbers[..3], [4800, 4, 127]);
     /// ```
+    #[must_use]
     pub fn numbers(&self) -> [i64; SETTINGS] {
         let mut numbers = [0; SETTINGS];
         take_down(*self, &mut numbers);
@@ -120,6 +138,7 @@ impl Settings {
     /// ```
     /// assert_eq!(castanwel::Settings::cells()[7], castanwel::numbers::Cell::Signed);
     /// ```
+    #[must_use]
     pub fn cells() -> Vec<Cell> {
         cells_of(BLANK)
     }

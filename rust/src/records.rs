@@ -252,8 +252,9 @@ impl Gll {
     /// ```
     /// use castanwel::{Gll, Mode, Sentence, Status, Talker};
     /// let none = Sentence::Gll(Talker::Gp, Gll::new(Status(b'V'), Mode(b'N')));
-    /// assert_eq!(none.to_string(), "$GPGLL,,,,,,V,N*64\r\n");
+    /// assert_eq!(none.to_string(), "$GPGLL,,,,,,V,N*64");
     /// ```
+    #[must_use]
     pub fn new(status: Status, mode: Mode) -> Gll {
         Gll { status, mode, ..Blank::blank() }
     }
@@ -265,8 +266,9 @@ impl Gsa {
     /// ```
     /// use castanwel::{Gsa, Selection, Sentence, Talker};
     /// let none = Sentence::Gsa(Talker::Gp, Gsa::new(Selection(b'A'), 1));
-    /// assert_eq!(none.to_string(), "$GPGSA,A,1,,,,,,,,,,,,,,,*1E\r\n");
+    /// assert_eq!(none.to_string(), "$GPGSA,A,1,,,,,,,,,,,,,,,*1E");
     /// ```
+    #[must_use]
     pub fn new(selection: Selection, fix: u32) -> Gsa {
         Gsa { selection, fix, ..Blank::blank() }
     }
@@ -278,8 +280,9 @@ impl Gsv {
     /// ```
     /// use castanwel::{Gsv, Sentence, Talker};
     /// let none = Sentence::Gsv(Talker::Gp, Gsv::new(1, 1, 0));
-    /// assert_eq!(none.to_string(), "$GPGSV,1,1,00*79\r\n");
+    /// assert_eq!(none.to_string(), "$GPGSV,1,1,00*79");
     /// ```
+    #[must_use]
     pub fn new(lines: u32, line: u32, satellites: u32) -> Gsv {
         Gsv { lines, line, satellites, ..Blank::blank() }
     }
@@ -291,8 +294,9 @@ impl Rmc {
     /// ```
     /// use castanwel::{Mode, Rmc, Sentence, Status, Talker};
     /// let none = Sentence::Rmc(Talker::Gp, Rmc::new(Status(b'V'), Mode(b'N')));
-    /// assert_eq!(none.to_string(), "$GPRMC,,V,,,,,,,,,,N*53\r\n");
+    /// assert_eq!(none.to_string(), "$GPRMC,,V,,,,,,,,,,N*53");
     /// ```
+    #[must_use]
     pub fn new(status: Status, mode: Mode) -> Rmc {
         Rmc { status, mode, ..Blank::blank() }
     }
@@ -304,8 +308,9 @@ impl Vtg {
     /// ```
     /// use castanwel::{Mode, Sentence, Talker, Vtg};
     /// let none = Sentence::Vtg(Talker::Gp, Vtg::new(Mode(b'N')));
-    /// assert_eq!(none.to_string(), "$GPVTG,,T,,M,,N,,K,N*2C\r\n");
+    /// assert_eq!(none.to_string(), "$GPVTG,,,,,,,,,N*30");
     /// ```
+    #[must_use]
     pub fn new(mode: Mode) -> Vtg {
         Vtg { mode, ..Blank::blank() }
     }

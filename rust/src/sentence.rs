@@ -36,6 +36,7 @@ impl Talker {
     /// ```
     /// assert_eq!(castanwel::Talker::Gn.word(), "GN");
     /// ```
+    #[must_use]
     pub fn word(self) -> &'static str {
         ["GP", "GL", "GA", "GQ", "GN"][self as usize]
     }
@@ -74,6 +75,7 @@ macro_rules! sentences {
             /// assert_eq!(castanwel::Kind::Gga.word(), "GGA");
             /// assert_eq!(castanwel::Kind::Pirsr.word(), "PIRSR");
             /// ```
+            #[must_use]
             pub fn word(self) -> &'static str {
                 match self {
                     $(Kind::$name => $word,)*
@@ -102,6 +104,7 @@ macro_rules! sentences {
             /// let sentence = castanwel::read(b"$GPGSV,1,1,00*79\r\n").unwrap();
             /// assert_eq!(sentence.kind(), castanwel::Kind::Gsv);
             /// ```
+            #[must_use]
             pub fn kind(&self) -> Kind {
                 match self {
                     $(Sentence::$name(..) => Kind::$name,)*
@@ -161,6 +164,7 @@ impl Kind {
     /// ```
     /// assert_eq!(castanwel::Kind::Pirea.number(), 15);
     /// ```
+    #[must_use]
     pub fn number(self) -> u32 {
         self as u32
     }
@@ -171,6 +175,7 @@ impl Kind {
     /// assert_eq!(castanwel::Kind::from_number(1), Some(castanwel::Kind::Gga));
     /// assert_eq!(castanwel::Kind::from_number(16), None);
     /// ```
+    #[must_use]
     pub fn from_number(number: u32) -> Option<Kind> {
         Kind::ALL.iter().copied().find(|kind| kind.number() == number)
     }
@@ -181,6 +186,7 @@ impl Kind {
     /// assert!(castanwel::Kind::Zda.has_talker());
     /// assert!(!castanwel::Kind::Pirer.has_talker());
     /// ```
+    #[must_use]
     pub fn has_talker(self) -> bool {
         Sentence::blank(self).talker().is_some()
     }
@@ -191,6 +197,7 @@ impl Kind {
     /// use castanwel::numbers::Cell;
     /// assert_eq!(castanwel::Kind::Pirtr.cells(), [Cell::Mark, Cell::Plain, Cell::Mark, Cell::Signed]);
     /// ```
+    #[must_use]
     pub fn cells(self) -> Vec<Cell> {
         cells_of(Sentence::blank(self))
     }
@@ -203,6 +210,7 @@ impl Sentence {
     /// let sentence = castanwel::read(b"$GPGSV,1,1,00*79\r\n").unwrap();
     /// assert_eq!(sentence.talker(), Some(castanwel::Talker::Gp));
     /// ```
+    #[must_use]
     pub fn talker(&self) -> Option<Talker> {
         match *self {
             Sentence::Gga(talker, _)
@@ -222,6 +230,7 @@ impl Sentence {
     /// let sentence = castanwel::read(b"$GPGSV,1,1,00*79\r\n").unwrap();
     /// assert_eq!(sentence.address(), "GPGSV");
     /// ```
+    #[must_use]
     pub fn address(&self) -> String {
         self.talker().map_or("", Talker::word).to_owned() + self.kind().word()
     }

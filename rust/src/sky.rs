@@ -3,11 +3,13 @@
 use crate::ffi;
 use crate::numbers::{Cell, GROUP};
 use crate::records::Entry;
-use crate::refusal::Refusal;
+use crate::refusal::GroupRefusal;
 use crate::sentence::Talker;
 use crate::walk::{cells_of, in_order, put_up, take_down};
-use crate::LONGEST;
 use std::fmt;
+
+/// The length of the longest group: nine lines of 18 bytes without their satellites, and 36 satellites of 13 bytes, commas among them.
+pub const LONGEST_GROUP: usize = 9 * 18 + 36 * 13;
 
 in_order! {
     /// Satellites in order; blank by default.
@@ -34,6 +36,7 @@ impl Table {
     /// let table = Table::of(&[Entry { number: 5, ..Entry::default() }]);
     /// assert_eq!((table.count, table.entries[0].number), (1, 5));
     /// ```
+    #[must_use]
     pub fn of(satellites: &[Entry]) -> Table {
         let mut table = Table { count: u32::try_from(satellites.len()).unwrap_or(u32::MAX), ..Table::default() };
         for (place, satellite) in table.entries.iter_mut().zip(satellites) {
@@ -48,6 +51,7 @@ impl Table {
     /// let sky = castanwel::read_group(b"$GPGSV,1,1,01,05,,,*7D\r\n").unwrap();
     /// assert_eq!(sky.table.used().len(), 1);
     /// ```
+    #[must_use]
     pub fn used(&self) -> &[Entry] {
         &self.entries[..self.entries.len().min(self.count as usize)]
     }
@@ -60,6 +64,7 @@ impl Table {
     /// assert_eq!(cells.len(), 253);
     /// assert_eq!(cells[..4], [Cell::Plain, Cell::Plain, Cell::Mark, Cell::Plain]);
     /// ```
+    #[must_use]
     pub fn cells() -> Vec<Cell> {
         cells_of(Table::default())
     }
@@ -84,7 +89,7 @@ in_order! {
 /// let refusal = castanwel::read_group(b"$GPGSV,5,5,17,77,71,048,53*43\r\n").unwrap_err();
 /// assert_eq!(refusal.to_string(), "refusal 6 at line 1: group rule");
 /// ```
-pub fn read_group(bytes: &[u8]) -> Result<Sky, Refusal> {
+pub fn read_group(bytes: &[u8]) -> Result<Sky, GroupRefusal> {
     let mut numbers = [0; GROUP];
     ffi::read_group(bytes, &mut numbers)?;
     Ok(put_up(Sky::default(), &numbers))
@@ -102,7 +107,7 @@ pub fn read_group(bytes: &[u8]) -> Result<Sky, Refusal> {
 /// let twice = Sky { talker: Talker::Gp, table: Table::of(&[five, five]) };
 /// assert_eq!(castanwel::write_group(&twice, &mut out).unwrap_err().number, 7);
 /// ```
-pub fn write_group(sky: &Sky, out: &mut [u8]) -> Result<usize, Refusal> {
+pub fn write_group(sky: &Sky, out: &mut [u8]) -> Result<usize, GroupRefusal> {
     let mut numbers = [0; GROUP];
     take_down(*sky, &mut numbers);
     ffi::write_group(&numbers, out)
@@ -115,9 +120,9 @@ pub fn write_group(sky: &Sky, out: &mut [u8]) -> Result<usize, Refusal> {
 /// assert_eq!(sky.to_string(), "$GPGSV,1,1,01,05,,,*7D");
 /// ```
 impl TryFrom<&[u8]> for Sky {
-    type Error = Refusal;
+    type Error = GroupRefusal;
 
-    fn try_from(bytes: &[u8]) -> Result<Sky, Refusal> {
+    fn try_from(bytes: &[u8]) -> Result<Sky, GroupRefusal> {
         read_group(bytes)
     }
 }
@@ -125,7 +130,7 @@ impl TryFrom<&[u8]> for Sky {
 /// The lines of the group, with LF between them; where it cannot be written, the refusal in words.
 impl fmt::Display for Sky {
     fn fmt(&self, f: &mut fmt::Formatter<'_>) -> fmt::Result {
-        let mut out = [0; 9 * LONGEST];
+        let mut out = [0; LONGEST_GROUP];
         match write_group(self, &mut out) {
             Ok(length) => f.write_str(String::from_utf8_lossy(&out[..length]).replace("\r\n", "\n").trim_end()),
             Err(refusal) => write!(f, "(the sky of {} cannot be written: {})", self.talker.word(), refusal),

@@ -168,15 +168,35 @@ fn replies() {
 
 #[test]
 fn words_of_a_refusal() {
-    let words = |number, line, field| Refusal { number, line, field }.to_string();
-    assert_eq!(words(5, 1, 3), "refusal 5 at line 1, field 3: a field's form or range");
-    assert_eq!(words(7, 4, 0), "refusal 7 at line 4: satellite repeated in a group");
+    let words = |number, line, field| Refusal::<false> { number, line, field }.to_string();
+    assert_eq!(words(5, 1, 3), "refusal 5 at field 3: a field's form or range");
+    assert_eq!(words(2, 1, 0), "refusal 2: digits differ from the XOR");
+    assert_eq!(words(5, 2, 3), "refusal 5 at line 2, field 3: a field's form or range");
     assert_eq!(words(8, 0, 0), "refusal 8: output shorter than what would be written");
     let meanings: std::collections::HashSet<&str> =
-        (1..=10).map(|number| Refusal { number, line: 1, field: 0 }.meaning()).collect();
-    assert_eq!(meanings.len(), 10);
+        (1..=12).map(|number| GroupRefusal { number, line: 1, field: 0 }.meaning()).collect();
+    assert_eq!(meanings.len(), 12);
     let boxed: Box<dyn std::error::Error> = Box::new(read(b"").unwrap_err());
-    assert!(boxed.to_string().starts_with("refusal 1 at line 1: "));
+    assert!(boxed.to_string().starts_with("refusal 1: "));
+}
+
+#[test]
+fn words_of_a_group_s_refusal() {
+    let words = |number, line, field| GroupRefusal { number, line, field }.to_string();
+    assert_eq!(words(5, 1, 5), "refusal 5 at line 1, field 5: a field's form or range");
+    assert_eq!(words(2, 1, 0), "refusal 2 at line 1: digits differ from the XOR");
+    assert_eq!(words(7, 4, 0), "refusal 7 at line 4: satellite repeated in a group");
+    assert_eq!(words(5, 0, 0), "refusal 5: a field's form or range");
+    let wrong = castanwel::read_group(b"$GPGSV,1,1,01,05,91,,*75\r\n").unwrap_err();
+    assert_eq!(wrong.to_string(), words(5, 1, 5));
+    let same: Refusal = wrong.into();
+    assert_eq!(same, Refusal { number: 5, line: 1, field: 5 });
+    let mut numbers = [0; castanwel::numbers::GROUP];
+    let wrong = castanwel::numbers::read_group(b"$GPGSV,1,1,00*78\r\n", &mut numbers).unwrap_err();
+    assert_eq!(wrong.to_string(), words(2, 1, 0));
+    numbers[1..4].copy_from_slice(&[1, 5, 2]);
+    let wrong = castanwel::numbers::write_group(&numbers, &mut [0; LONGEST]).unwrap_err();
+    assert_eq!(wrong.to_string(), words(5, 1, 5));
 }
 
 /// A record that has a default can be written as it is.

@@ -3,7 +3,7 @@
 use crate::lent::{is_stale, refused, touched, Lent, STALE};
 use crate::words::{self, MOST};
 use castanwel::numbers::{self, GROUP};
-use castanwel::Talker;
+use castanwel::{Refusal, Talker};
 
 /// How many bytes there are to write a group to.
 const ROOM: usize = 800;
@@ -29,7 +29,7 @@ pub fn group(rest: &[u8]) -> Option<String> {
     Some(match read {
         Ok(()) => read_as(&numbers).unwrap_or_else(|| "not blank".to_owned()),
         Err(_) if !is_stale(&numbers) => touched(),
-        Err(refusal) => refused(refusal),
+        Err(refusal) => refused(refusal.into()),
     })
 }
 
@@ -42,5 +42,5 @@ pub fn table(rest: &[u8]) -> Option<String> {
     let mut numbers = vec![talker as i64];
     numbers.extend(words::values(given, GROUP - 1)?);
     let written = numbers::write_group(&numbers, lent.room());
-    Some(lent.answer(written))
+    Some(lent.answer(written.map_err(Refusal::from)))
 }
