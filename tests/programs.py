@@ -1,11 +1,19 @@
 """Runs the repository's programs, built first, on bytes."""
+import functools
 import pathlib
 import subprocess
 
 ROOT = pathlib.Path(__file__).resolve().parent.parent
 
 
+@functools.cache
+def built(name):
+    """Has a program proved and built, where that has not been done since the last change: runs after this one say nothing of it."""
+    subprocess.run([str(ROOT / "tools" / "program"), name], stdin=subprocess.DEVNULL, capture_output=True, cwd=ROOT, timeout=3600)
+
+
 def command(name, *words):
+    built(name)
     return [str(ROOT / "tools" / "program"), name, *words]
 
 

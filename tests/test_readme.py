@@ -2,7 +2,7 @@
 import re
 import subprocess
 
-from programs import ROOT
+from programs import ROOT, built
 
 README = (ROOT / "README.md").read_text()
 
@@ -15,6 +15,8 @@ def shown():
 
 
 def test_commands_give_what_is_shown():
+    for name in ("listing", "exhibits", "standin", "scribe"):
+        built(name)
     for command, rows in shown():
         done = subprocess.run(["bash", "-c", command], stdout=subprocess.PIPE, stderr=subprocess.STDOUT, cwd=ROOT, timeout=600)
         assert (done.returncode, done.stdout.decode().replace("\r\n", "\n")) == (0, rows), command

@@ -1,5 +1,5 @@
--- The ends of the fields, stored one after another: each byte of the body is one step of the stores. The place of each byte is written over
--- the one before it until its comma comes, since what is stored last at a place stands there.
+-- The ends of the fields, stored one after another: each byte of the body is one step of the stores. A place may be written over
+-- until its comma comes, since what is stored last at a place stands there.
 use Prim.Native.Nat.{ℕ, suc, _+_, _≤_, _<_}
 use mathlib.Core.Path.{_≡_, refl, sym, _∙_, ap}
 use mathlib.Core.List.{List, [], _∷_}
@@ -10,6 +10,7 @@ use lib.ListN.{length, getD, drop, set, drop-of-length-le, length-set}
 use lib.Dec.{eqb}
 use lib.Seq.{drop-cons, length-sets, set-set, sets}
 use mir.Val.{boolByte}
+use borrow.Author.Tests.{ne-eqb}
 use Rattle.line.specs.Ends.{endsFrom}
 
 -- There is always a first end.
@@ -53,6 +54,17 @@ module _ (p : List ℕ) (n : ℕ) (s : List ℕ) (i : ℕ) where
         go false r =
             let e : n + 0 ≡ n = omega arith in
             rw (e, r .2) (ap (λ (q : List ℕ). sets q (suc n) (r .1)) (set-set p n i (r .0)))
+
+    -- a byte that is no comma leaves what is left
+    module _ (o : getD s i 0 ≡ 44 → ⊥) where
+      ends-skip : left ≡ endsFrom i (drop i s)
+      ends-skip = sym (ends-next ∙ rw (ne-eqb (getD s i 0) 44 o))
+
+      pub count-skip : length left ≡ length (endsFrom i (drop i s))
+      count-skip = ap length ends-skip
+
+      pub store-skip : sets p n left ≡ sets p n (endsFrom i (drop i s))
+      store-skip = ap (sets p n) ends-skip
 
   module _ (h : length s ≤ i) where
     pub count-end : length (endsFrom i (drop i s)) ≡ 1

@@ -1,16 +1,17 @@
 -- Laws of the line rule as the code meets it: one for each way out, and one for each byte of a body.
 use Prim.Native.Nat.{ℕ, _+_, _-_, _≤_, _<_}
-use mathlib.Core.Path.{_≡_, sym}
+use mathlib.Core.Path.{_∙_, _≡_, sym}
 use mathlib.Core.List.{[], List}
 use mathlib.Core.Bool.{Bool, true, false, cond, _&&_}
 use native.Mathlib.Omega.{arith}
 use native.Mathlib.Numerals.{add-one}
+use lib.Dec.{leb}
 use lib.ListN.{length, getD, take, drop, drop-of-length-le}
 use lib.Seq.{drop-cons}
 use lib.Bits.{bitXor}
 use borrow.Author.Tests.{eq-eqb, ne-eqb, le-leb, leb-true, lt-leb}
-use Rattle.digits.proofs.Bools.{and-assoc, and-left, and-true}
-use Rattle.line.specs.Line.{bodyByte, bodyBytes, xorFrom, xorOf, bodyOf, edgeForm, endOf, endForm, lineForm, endGives, lineRefusal}
+use Rattle.digits.proofs.Bools.{and-assoc, and-left, and-right, and-true}
+use Rattle.line.specs.Line.{bodyByte, bodyBytes, noneOf, xorFrom, xorOf, bodyOf, edgeForm, endOf, endForm, lineForm, endGives, lineRefusal}
 use Rattle.line.specs.Ends.{endsFrom, endsIn}
 
 -- the ways out of the edges, in the code's order
@@ -59,11 +60,34 @@ module _ (l : List ℕ) (e : edgeForm l ≡ true) where
 pub line-short : (l : List ℕ) → length l < 7 → lineRefusal l ≡ 1
 line-short l h = line-no-edges l (edges-short l h)
 
+-- A plain byte may stand in a body, and is no comma.
+pub plain-stands : (b : ℕ) → (leb 45 b && leb b 91) ≡ true → bodyByte b ≡ true
+unfolding bodyByte noneOf
+plain-stands b t =
+    let l = leb-true 45 b (and-left _ _ t) in
+    let h = leb-true b 91 (and-right (leb 45 b) _ t) in
+    rw (
+      le-leb 0x20 b (omega arith),
+      le-leb b 0x7E (omega arith),
+      ne-eqb b 36 (λ e. omega arith),
+      ne-eqb b 42 (λ e. omega arith),
+      ne-eqb b 33 (λ e. omega arith),
+      ne-eqb b 92 (λ e. omega arith),
+      ne-eqb b 94 (λ e. omega arith),
+      ne-eqb b 126 (λ e. omega arith),
+    )
+
+pub plain-no-comma : (b : ℕ) → (leb 45 b && leb b 91) ≡ true → b ≡ 44 → ⊥
+plain-no-comma b t e = let l = leb-true 45 b (and-left _ _ t) in omega arith
+
 -- one byte of a body, at place i
 module _ (s : List ℕ) (i : ℕ) (h : i < length s) where
   pub good-next : (g : Bool) → (g && bodyBytes (drop i s)) ≡ ((g && bodyByte (getD s i 0)) && bodyBytes (drop (i + 1) s))
   unfolding bodyBytes
   good-next g = rw (drop-cons s i 0 h, add-one) (sym (and-assoc g _ _))
+
+  pub good-plain : bodyByte (getD s i 0) ≡ true → (g : Bool) → (g && bodyBytes (drop i s)) ≡ (g && bodyBytes (drop (i + 1) s))
+  good-plain e g = good-next g ∙ rw (e, and-true g)
 
   pub xor-next : (x : ℕ) → xorFrom x (drop i s) ≡ xorFrom (bitXor x (getD s i 0)) (drop (i + 1) s)
   unfolding xorFrom

@@ -1,18 +1,23 @@
 // The line rule, for every slice of bytes, sound or damaged.
 ghost use mathlib.Core.Path.{_≡_};
-ghost use mathlib.Core.Bool.{cond};
+ghost use mathlib.Core.Bool.{_&&_, cond};
+ghost use lib.Dec.{leb};
 ghost use lib.ListN.{length, set};
 ghost use lib.Seq.{sets};
 ghost use Rattle.line.specs.Line.{bodyByte, bodyBytes, xorOf, edgeForm, endForm, endGives, lineRefusal};
 ghost use Rattle.line.specs.Ends.{endsFrom, endsIn, passing};
 
-// Whether `b` may stand in a body. Digits, capitals, the comma and the point are found with the first test.
+// Whether `b` is a byte from `-` to `[`, as digits, capitals and the point are: it may stand in a body, and ends no field.
+fn is_plain(b: u8) -> bool
+    ensures { λ r. ⌜ r ≡ (leb 45 b && leb b 91) ⌝ }
+{
+    (b'-' <= b) & (b <= b'[')
+}
+
+// Whether `b` may stand in a body.
 fn may_stand(b: u8) -> bool
     ensures { λ r. ⌜ r ≡ bodyByte b ⌝ }
 {
-    if (b'+' <= b) & (b <= b'[') {
-        return true;
-    }
     let other = (b != b'!') & ((b != b'\\') & ((b != b'^') & (b != b'~')));
     (b' ' <= b) & ((b <= b'~') & ((b != b'$') & ((b != b'*') & other)))
 }
@@ -33,8 +38,8 @@ struct Found {
     count: usize,
 }
 
-// The pass. The place where each field ends is stored in `p`, one after another, as far as there is room: the place of each
-// byte is written over the one before it until its comma comes.
+// The pass. The place where each field ends is stored in `p`, one after another, as far as there is room: the place of a byte
+// that is not plain is written over the one before it until a comma comes.
 fn scan(s: &[u8], p: &mut [usize]) -> Found
     ensures { λ r. ⌜ (r .good ≡ bodyBytes (now (s .entry))) × (r .xor ≡ xorOf (now (s .entry))) ⌝ }
     ensures { λ r. ⌜ (r .count ≡ length (endsFrom 0 (now (s .entry)))) × (now (p .exit) ≡ sets (now (p .entry)) 0 (endsFrom 0 (now (s .entry)))) ⌝ }
@@ -45,8 +50,12 @@ fn scan(s: &[u8], p: &mut [usize]) -> Found
     let mut i: usize = 0;
     while i < s.len() {
         let b = s[i];
-        good = good & may_stand(b);
         xor = xor ^ b;
+        if is_plain(b) {
+            i += 1;
+            continue;
+        }
+        good = good & may_stand(b);
         store(p, n, i);
         n += (b == b',') as usize;
         i += 1;

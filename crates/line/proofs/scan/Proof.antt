@@ -10,8 +10,8 @@ use lib.Dec.{eqb}
 use lib.Seq.{sets}
 use Rattle.line.specs.Line.{bodyBytes, xorFrom, xorOf}
 use Rattle.line.specs.Ends.{endsFrom}
-use Rattle.line.proofs.Laws.{good-next, xor-next, good-end, xor-end}
-use Rattle.line.proofs.Ending.{count-end, count-next, mark-most, set-same, store-end, store-next}
+use Rattle.line.proofs.Laws.{good-end, good-next, good-plain, plain-no-comma, plain-stands, xor-end, xor-next}
+use Rattle.line.proofs.Ending.{count-end, count-next, count-skip, mark-most, set-same, store-end, store-next, store-skip}
 use Rattle.line.proofs.scan.Statement.{statement}
 use Rattle.line.proofs.scan.Tie as tie
 
@@ -30,11 +30,29 @@ loop-holds c = (omega arith, refl, refl, omega arith, refl, omega arith, refl)
 
 loop-again : tie.Need-loop-again Inv-loop μ-loop
 loop-again c =
-    let b2 = c .before .before in let b4 = b2 .before .before in let b7 = b4 .before .before .before in
-    let a = b7 .before .before .before .args in
+    let b4 = c .before .before .before .before in
+    let a = b4 .before .before .before .args in
     let s = a .s .now in
-    let l = b7 .loop in
-    let h = b4 .before .before .loop-test .taken in
+    let l = b4 .loop in
+    let h = c .before .before .before .loop-test .taken in
+    let t = sym (c .before .is-plain .ensures) ∙ c .if1 .taken in
+    let o = plain-no-comma (getD s (l .i) 0) t in (
+      omega arith,
+      l .inv .1 ∙ good-plain s (l .i) h (plain-stands (getD s (l .i) 0) t) (l .good),
+      l .inv .2 ∙ xor-next s (l .i) h (l .xor),
+      omega arith,
+      l .inv .4,
+      omega (arith, count-skip (l .p) (l .n) s (l .i) h o),
+      store-skip (l .p) (l .n) s (l .i) h o ∙ l .inv .6,
+    )
+
+loop-again-2 : tie.Need-loop-again-2 Inv-loop μ-loop
+loop-again-2 c =
+    let b2 = c .before .before in let b4 = b2 .before .before in let b9 = b4 .before .before .before .before .before in
+    let a = b9 .before .before .before .args in
+    let s = a .s .now in
+    let l = b9 .loop in
+    let h = b4 .before .before .before .before .loop-test .taken in
     let e = b2 .store .ensures in (
       omega arith,
       rw (b4 .may-stand .ensures) (l .inv .1 ∙ good-next s (l .i) h (l .good)),
@@ -67,11 +85,12 @@ returns c =
 
 add-n : tie.Need-add-n Inv-loop μ-loop
 add-n c =
-    let b7 = c .before .before .before .before .before .before .before in
-    omega (arith, mark-most (eqb (getD (b7 .before .before .before .args .s .now) (b7 .loop .i) 0) 44))
+    let b9 = c .before .before .before .before .before .before .before .before .before in
+    omega (arith, mark-most (eqb (getD (b9 .before .before .before .args .s .now) (b9 .loop .i) 0) 44))
 
 pub scan-spec : {M : Type 1} → statement M
 scan-spec =
     tie.close
-    (tie.spec Inv-loop μ-loop loop-holds (λ c. omega arith) (λ c κs. search needs) (λ c κs. search needs) (λ c. tt) add-n
-    (λ c. omega arith) (λ c. omega arith) loop-again (λ c κs. search needs) (λ c. omega arith) same-length returns)
+    (tie.spec Inv-loop μ-loop loop-holds (λ c. omega arith) (λ c κs. search needs) (λ c. omega arith) (λ c. omega arith) loop-again
+    (λ c κs. search needs) (λ c κs. search needs) (λ c. tt) add-n (λ c. omega arith) (λ c. omega arith) loop-again-2
+    (λ c κs. search needs) (λ c. omega arith) same-length returns)
