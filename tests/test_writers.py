@@ -121,4 +121,4 @@ def test_a_row_longer_than_the_buffer_ends_the_program():
 
 def test_an_argument_is_refused_in_words():
     out, said = run("scribe", b"PIRER 82\n", "extra", status=2)
-    assert out == b"" and said.startswith(b"scribe: it takes no argument"), (out, said)
+    assert out == b"" and said.startswith(b"tools/scribe: it takes no words"), (out, said)

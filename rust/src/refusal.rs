@@ -14,8 +14,8 @@ use std::fmt;
 /// ```
 /// let damaged = b"$GPGSV,1,1,00*78\r\n";
 /// let (of_line, of_group) = (castanwel::read(damaged), castanwel::read_group(damaged));
-/// assert_eq!(of_line.unwrap_err().to_string(), "refusal 2: digits differ from the XOR");
-/// assert_eq!(of_group.unwrap_err().to_string(), "refusal 2 at line 1: digits differ from the XOR");
+/// assert_eq!(of_line.unwrap_err().to_string(), "refusal 2: the two digits differ from the XOR of the body");
+/// assert_eq!(of_group.unwrap_err().to_string(), "refusal 2 at line 1: the two digits differ from the XOR of the body");
 /// ```
 #[derive(Clone, Copy, Debug, PartialEq, Eq, Hash)]
 #[must_use = "it says why nothing was done"]
@@ -51,21 +51,21 @@ impl<const GROUP: bool> Refusal<GROUP> {
     ///
     /// ```
     /// let refusal = castanwel::read(b"$GPGSV,1,1,00*78\r\n").unwrap_err();
-    /// assert_eq!(refusal.meaning(), "digits differ from the XOR");
+    /// assert_eq!(refusal.meaning(), "the two digits differ from the XOR of the body");
     /// ```
     #[must_use]
     pub fn meaning(&self) -> &'static str {
         match self.number {
-            1 => "the line rule fails, or a line would pass 82 bytes",
-            2 => "digits differ from the XOR",
-            3 => "address unknown",
-            4 => "field count",
-            5 => "a field's form or range",
-            6 => "group rule",
-            7 => "satellite repeated in a group",
-            8 => "output shorter than what would be written",
-            9 => "sentence is not a command",
-            10 => "port's protocol is not 4",
+            1 => "the line rule fails, or a written line would pass 82 bytes",
+            2 => "the two digits differ from the XOR of the body",
+            3 => "the address is unknown",
+            4 => "the kind does not have so many fields",
+            5 => "a field is not of its form or range, or a value of a record is outside its range",
+            6 => "a line does not go with its group",
+            7 => "a satellite is repeated in its group",
+            8 => "the output is shorter than what would be written",
+            9 => "the sentence is not a command",
+            10 => "the protocol of the port is not 4",
             11 => "the bytes are no index",
             12 => "no exhibit has that number",
             _ => "no number of a refusal",

@@ -87,7 +87,7 @@ in_order! {
 /// let sky = castanwel::read_group(b"$GPGSV,1,1,01,05,,,*7D\r\n").unwrap();
 /// assert_eq!(sky.table.used()[0], castanwel::Entry { number: 5, ..castanwel::Entry::default() });
 /// let refusal = castanwel::read_group(b"$GPGSV,5,5,17,77,71,048,53*43\r\n").unwrap_err();
-/// assert_eq!(refusal.to_string(), "refusal 6 at line 1: group rule");
+/// assert_eq!(refusal.to_string(), "refusal 6 at line 1: a line does not go with its group");
 /// ```
 pub fn read_group(bytes: &[u8]) -> Result<Sky, GroupRefusal> {
     let mut numbers = [0; GROUP];

@@ -227,7 +227,7 @@ fn settings_cells() {
 #[test]
 fn refusal_meaning() {
     let refusal = castanwel::read(b"$GPGSV,1,1,00*78\r\n").unwrap_err();
-    assert_eq!(refusal.meaning(), "digits differ from the XOR");
+    assert_eq!(refusal.meaning(), "the two digits differ from the XOR of the body");
 }
 
 #[test]
@@ -333,7 +333,7 @@ fn read_group() {
     let sky = castanwel::read_group(b"$GPGSV,1,1,01,05,,,*7D\r\n").unwrap();
     assert_eq!(sky.table.used()[0], castanwel::Entry { number: 5, ..castanwel::Entry::default() });
     let refusal = castanwel::read_group(b"$GPGSV,5,5,17,77,71,048,53*43\r\n").unwrap_err();
-    assert_eq!(refusal.to_string(), "refusal 6 at line 1: group rule");
+    assert_eq!(refusal.to_string(), "refusal 6 at line 1: a line does not go with its group");
 }
 
 #[test]

@@ -5,8 +5,8 @@
 fn words_of_a_refusal() {
     let damaged = b"$GPGSV,1,1,00*78\r\n";
     let (of_line, of_group) = (castanwel::read(damaged), castanwel::read_group(damaged));
-    assert_eq!(of_line.unwrap_err().to_string(), "refusal 2: digits differ from the XOR");
-    assert_eq!(of_group.unwrap_err().to_string(), "refusal 2 at line 1: digits differ from the XOR");
+    assert_eq!(of_line.unwrap_err().to_string(), "refusal 2: the two digits differ from the XOR of the body");
+    assert_eq!(of_group.unwrap_err().to_string(), "refusal 2 at line 1: the two digits differ from the XOR of the body");
 }
 
 #[test]

@@ -18,6 +18,9 @@ fn at_field(field: usize, sentence: Sentence) {
 const LAT: i32 = 54_000_000;
 const LON: i32 = 108_000_000;
 
+/// What refusal 5 says.
+const FORM: &str = "a field is not of its form or range, or a value of a record is outside its range";
+
 #[test]
 fn gga() {
     let sound = Gga::default();
@@ -169,10 +172,10 @@ fn replies() {
 #[test]
 fn words_of_a_refusal() {
     let words = |number, line, field| Refusal::<false> { number, line, field }.to_string();
-    assert_eq!(words(5, 1, 3), "refusal 5 at field 3: a field's form or range");
-    assert_eq!(words(2, 1, 0), "refusal 2: digits differ from the XOR");
-    assert_eq!(words(5, 2, 3), "refusal 5 at line 2, field 3: a field's form or range");
-    assert_eq!(words(8, 0, 0), "refusal 8: output shorter than what would be written");
+    assert_eq!(words(5, 1, 3), format!("refusal 5 at field 3: {}", FORM));
+    assert_eq!(words(2, 1, 0), "refusal 2: the two digits differ from the XOR of the body");
+    assert_eq!(words(5, 2, 3), format!("refusal 5 at line 2, field 3: {}", FORM));
+    assert_eq!(words(8, 0, 0), "refusal 8: the output is shorter than what would be written");
     let meanings: std::collections::HashSet<&str> =
         (1..=12).map(|number| GroupRefusal { number, line: 1, field: 0 }.meaning()).collect();
     assert_eq!(meanings.len(), 12);
@@ -183,10 +186,10 @@ fn words_of_a_refusal() {
 #[test]
 fn words_of_a_group_s_refusal() {
     let words = |number, line, field| GroupRefusal { number, line, field }.to_string();
-    assert_eq!(words(5, 1, 5), "refusal 5 at line 1, field 5: a field's form or range");
-    assert_eq!(words(2, 1, 0), "refusal 2 at line 1: digits differ from the XOR");
-    assert_eq!(words(7, 4, 0), "refusal 7 at line 4: satellite repeated in a group");
-    assert_eq!(words(5, 0, 0), "refusal 5: a field's form or range");
+    assert_eq!(words(5, 1, 5), format!("refusal 5 at line 1, field 5: {}", FORM));
+    assert_eq!(words(2, 1, 0), "refusal 2 at line 1: the two digits differ from the XOR of the body");
+    assert_eq!(words(7, 4, 0), "refusal 7 at line 4: a satellite is repeated in its group");
+    assert_eq!(words(5, 0, 0), format!("refusal 5: {}", FORM));
     let wrong = castanwel::read_group(b"$GPGSV,1,1,01,05,91,,*75\r\n").unwrap_err();
     assert_eq!(wrong.to_string(), words(5, 1, 5));
     let same: Refusal = wrong.into();

@@ -61,10 +61,8 @@ both-missing a o = go (eqb (a .wrong) 0) (a .there) (o .there) (eqb (o .wrong) 1
   where
     answer : Bool → Bool → Bool → Bool → Bool → Position
     answer w s t one right =
-        pick w
-        (pick ((s && not t) || ((not s && t) || one)) (refusedAt 3)
-        (pick right (record { wrong = 0; there = s; lat = a .value; lon = o .value }) (refusedAt 4)))
-        (refusedAt (a .wrong))
+        pick w (pick ((s && not t) || ((not s && t) || one)) (refusedAt 3)
+        (pick right (record { wrong = 0; there = s; lat = a .value; lon = o .value }) (refusedAt 4))) (refusedAt (a .wrong))
 
     go : (w s t one right : Bool) → eqb (a .wrong) 0 ≡ w → a .there ≡ s → o .there ≡ t → eqb (o .wrong) 0 ≡ right
         → answer w s t one right .wrong ≡ 0 → answer w s t one right .there ≡ false

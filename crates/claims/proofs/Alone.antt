@@ -86,8 +86,7 @@ masks-same s = record { first = refl; second = refl; datum = refl; zone = refl; 
 pub masks-alone : (s : Settings) (p : ℕ) (l : List ℕ) (room : ℕ) (r : MasksAsked) → readLine l ≡ S.Sr r
     → SameButMasks s (settingsAfter s (outcomeOf s p l) room)
 masks-alone s p l room r e =
-    stepped s p l room (SameButMasks s) (masks-same s) (S.Sr r) e
-    (replied s p l room (SameButMasks s) (masks-same s) (afterMasks s r) _ _
+    stepped s p l room (SameButMasks s) (masks-same s) (S.Sr r) e (replied s p l room (SameButMasks s) (masks-same s) (afterMasks s r) _ _
     (record { first = refl; second = refl; datum = refl; zone = refl; code = refl }))
 
 -- PIRPR.

@@ -102,8 +102,7 @@ same-with (suc n) s p = record { other = suc-other; datum = refl; zone = refl; g
 
 pub only-the-named-port : (s : Settings) (p : ℕ) (r : PortAsked) (room : ℕ)
     → SameButPort (namedPort p r) s (settingsAfter s (sentenceOutcome s p (S.Pr r)) room)
-only-the-named-port s p r room = go
-    (eqb (writtenOf (faultAt (pirpaWrong (portTold (afterPort s p r) (namedPort p r))))
+only-the-named-port s p r room = go (eqb (writtenOf (faultAt (pirpaWrong (portTold (afterPort s p r) (namedPort p r))))
     (pirpaBody (portTold (afterPort s p r) (namedPort p r))) room .no) 0) (r .rate .there)
   where
     go : (b there : Bool) → SameButPort (namedPort p r) s (pick b (pick there (withPort s (namedPort p r) (portAsked r)) s) s)

@@ -103,8 +103,7 @@ module _ {M : Type 1} (𝓤 : URA M) (H : Heap 𝓤) (A : Atoms 𝓤) (mem : Mem
       ≡ (λ _ arrival _ _ _ _ _ settings′ _ line′ out′ _ _ _ r. fact 𝓤
       (r ≡ stepped (now (settings′ .entry)) arrival (now (line′ .entry)) (now (out′ .entry)) .answer .no)))
       × (step.ensures-2 𝓤 H κs A mem run
-      ≡ (λ _ arrival _ _ _ _ _ settings′ _ line′ out′ length′ _ _ _. fact 𝓤
-      (now (length′ .exit)
+      ≡ (λ _ arrival _ _ _ _ _ settings′ _ line′ out′ length′ _ _ _. fact 𝓤 (now (length′ .exit)
       ≡ setAt (stepped (now (settings′ .entry)) arrival (now (line′ .entry)) (now (out′ .entry)) .answer .no)
       (stepped (now (settings′ .entry)) arrival (now (line′ .entry)) (now (out′ .entry)) .answer .length) (now (length′ .entry)))))
       × (step.ensures-3 𝓤 H κs A mem run
@@ -127,8 +126,7 @@ module _ {M : Type 1} (𝓤 : URA M) (H : Heap 𝓤) (A : Atoms 𝓤) (mem : Mem
       ≡ (λ _ _ _ _ _ settings′ gps′ _ _ _ _. fact 𝓤
       (now (gps′ .exit) ≡ setAt (countsAt (now (settings′ .entry)) .no) (countsAt (now (settings′ .entry)) .gps) (now (gps′ .entry)))))
       × (counts.ensures-3 𝓤 H κs A mem run
-      ≡ (λ _ _ _ _ _ settings′ _ glonass′ _ _ _. fact 𝓤
-      (now (glonass′ .exit)
+      ≡ (λ _ _ _ _ _ settings′ _ glonass′ _ _ _. fact 𝓤 (now (glonass′ .exit)
       ≡ setAt (countsAt (now (settings′ .entry)) .no) (countsAt (now (settings′ .entry)) .glonass) (now (glonass′ .entry)))))
       × (counts.ensures-4 𝓤 H κs A mem run
       ≡ (λ _ _ _ _ _ settings′ _ _ line′ _ _. fact 𝓤 (now (line′ .exit) ≡ countsAt (now (settings′ .entry)) .line)))
@@ -153,8 +151,7 @@ module _ {M : Type 1} (𝓤 : URA M) (H : Heap 𝓤) (A : Atoms 𝓤) (mem : Mem
       → (write-group.ensures-1 𝓤 H κs A mem run
       ≡ (λ _ _ _ _ _ numbers′ out′ _ _ _ r. fact 𝓤 (r ≡ groupPut (now (numbers′ .entry)) (now (out′ .entry)) .answer .no)))
       × (write-group.ensures-2 𝓤 H κs A mem run
-      ≡ (λ _ _ _ _ _ numbers′ out′ length′ _ _ _. fact 𝓤
-      (now (length′ .exit)
+      ≡ (λ _ _ _ _ _ numbers′ out′ length′ _ _ _. fact 𝓤 (now (length′ .exit)
       ≡ setAt (groupPut (now (numbers′ .entry)) (now (out′ .entry)) .answer .no)
       (groupPut (now (numbers′ .entry)) (now (out′ .entry)) .answer .length) (now (length′ .entry)))))
       × (write-group.ensures-3 𝓤 H κs A mem run
@@ -171,8 +168,7 @@ module _ {M : Type 1} (𝓤 : URA M) (H : Heap 𝓤) (A : Atoms 𝓤) (mem : Mem
       → (index-write.ensures-1 𝓤 H κs A mem run
       ≡ (λ _ _ _ _ _ entries′ out′ _ _ _ r. fact 𝓤 (r ≡ writtenIndex (now (entries′ .entry)) (length (now (out′ .entry))) .no)))
       × (index-write.ensures-2 𝓤 H κs A mem run
-      ≡ (λ _ _ _ _ _ entries′ out′ size′ _ _ _. fact 𝓤
-      (now (size′ .exit)
+      ≡ (λ _ _ _ _ _ entries′ out′ size′ _ _ _. fact 𝓤 (now (size′ .exit)
       ≡ setAt (writtenIndex (now (entries′ .entry)) (length (now (out′ .entry))) .no)
       (writtenIndex (now (entries′ .entry)) (length (now (out′ .entry))) .length) (now (size′ .entry)))))
       × (index-write.ensures-3 𝓤 H κs A mem run
@@ -190,8 +186,7 @@ module _ {M : Type 1} (𝓤 : URA M) (H : Heap 𝓤) (A : Atoms 𝓤) (mem : Mem
       ≡ (λ _ _ _ _ _ index′ entries′ _ _ _ r. fact 𝓤
       (r ≡ listedFor (readIndex (now (index′ .entry))) (length (now (entries′ .entry))) .no)))
       × (index-read.ensures-2 𝓤 H κs A mem run
-      ≡ (λ _ _ _ _ _ index′ entries′ count′ _ _ _. fact 𝓤
-      (now (count′ .exit)
+      ≡ (λ _ _ _ _ _ index′ entries′ count′ _ _ _. fact 𝓤 (now (count′ .exit)
       ≡ setAt (listedFor (readIndex (now (index′ .entry))) (length (now (entries′ .entry))) .no)
       (listedFor (readIndex (now (index′ .entry))) (length (now (entries′ .entry))) .count) (now (count′ .entry)))))
       × (index-read.ensures-3 𝓤 H κs A mem run
@@ -210,8 +205,7 @@ module _ {M : Type 1} (𝓤 : URA M) (H : Heap 𝓤) (A : Atoms 𝓤) (mem : Mem
       ≡ (λ _ used number offset size _ _ _ index′ _ _ _ _ _ _ _ r. fact 𝓤
       (r ≡ addedIndex (now (index′ .entry)) used (entryWith number offset size) .no)))
       × (index-add.ensures-2 𝓤 H κs A mem run
-      ≡ (λ _ used number offset size _ _ _ index′ _ _ _ _ after′ _ _ _. fact 𝓤
-      (now (after′ .exit)
+      ≡ (λ _ used number offset size _ _ _ index′ _ _ _ _ after′ _ _ _. fact 𝓤 (now (after′ .exit)
       ≡ setAt (addedIndex (now (index′ .entry)) used (entryWith number offset size) .no)
       (addedIndex (now (index′ .entry)) used (entryWith number offset size) .length) (now (after′ .entry)))))
       × (index-add.ensures-3 𝓤 H κs A mem run
@@ -229,13 +223,11 @@ module _ {M : Type 1} (𝓤 : URA M) (H : Heap 𝓤) (A : Atoms 𝓤) (mem : Mem
       → (index-find.ensures-1 𝓤 H κs A mem run
       ≡ (λ _ number _ _ _ _ index′ _ _ _ _ _ r. fact 𝓤 (r ≡ foundIn number (readIndex (now (index′ .entry))) .no)))
       × (index-find.ensures-2 𝓤 H κs A mem run
-      ≡ (λ _ number _ _ _ _ index′ _ offset′ _ _ _ _. fact 𝓤
-      (now (offset′ .exit)
+      ≡ (λ _ number _ _ _ _ index′ _ offset′ _ _ _ _. fact 𝓤 (now (offset′ .exit)
       ≡ setAt (foundIn number (readIndex (now (index′ .entry))) .no)
       (foundIn number (readIndex (now (index′ .entry))) .offset) (now (offset′ .entry)))))
       × (index-find.ensures-3 𝓤 H κs A mem run
-      ≡ (λ _ number _ _ _ _ index′ _ _ size′ _ _ _. fact 𝓤
-      (now (size′ .exit)
+      ≡ (λ _ number _ _ _ _ index′ _ _ size′ _ _ _. fact 𝓤 (now (size′ .exit)
       ≡ setAt (foundIn number (readIndex (now (index′ .entry))) .no)
       (foundIn number (readIndex (now (index′ .entry))) .length) (now (size′ .entry)))))
       × (index-find.ensures-4 𝓤 H κs A mem run
@@ -249,8 +241,7 @@ module _ {M : Type 1} (𝓤 : URA M) (H : Heap 𝓤) (A : Atoms 𝓤) (mem : Mem
       → (read.ensures-1 𝓤 H κs A mem run
       ≡ (λ _ _ _ _ _ line′ numbers′ _ _ _ r. fact 𝓤 (r ≡ toldFor (readLine (now (line′ .entry))) (now (numbers′ .entry)) .no)))
       × (read.ensures-2 𝓤 H κs A mem run
-      ≡ (λ _ _ _ _ _ line′ numbers′ kind′ _ _ _. fact 𝓤
-      (now (kind′ .exit)
+      ≡ (λ _ _ _ _ _ line′ numbers′ kind′ _ _ _. fact 𝓤 (now (kind′ .exit)
       ≡ setAt (toldFor (readLine (now (line′ .entry))) (now (numbers′ .entry)) .no)
       (toldFor (readLine (now (line′ .entry))) (now (numbers′ .entry)) .kind) (now (kind′ .entry)))))
       × (read.ensures-3 𝓤 H κs A mem run
@@ -268,8 +259,7 @@ module _ {M : Type 1} (𝓤 : URA M) (H : Heap 𝓤) (A : Atoms 𝓤) (mem : Mem
       → (write.ensures-1 𝓤 H κs A mem run
       ≡ (λ kind _ _ _ _ _ _ numbers′ out′ _ _ _ r. fact 𝓤 (r ≡ writtenAs kind (now (numbers′ .entry)) (now (out′ .entry)) .no)))
       × (write.ensures-2 𝓤 H κs A mem run
-      ≡ (λ kind _ _ _ _ _ _ numbers′ out′ length′ _ _ _. fact 𝓤
-      (now (length′ .exit)
+      ≡ (λ kind _ _ _ _ _ _ numbers′ out′ length′ _ _ _. fact 𝓤 (now (length′ .exit)
       ≡ setAt (writtenAs kind (now (numbers′ .entry)) (now (out′ .entry)) .no)
       (writtenAs kind (now (numbers′ .entry)) (now (out′ .entry)) .length) (now (length′ .entry)))))
       × (write.ensures-3 𝓤 H κs A mem run

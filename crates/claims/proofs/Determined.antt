@@ -49,8 +49,7 @@ part : (l : RefT (List ℕ)) (at : ℕ) (bytes : List ℕ) (r s : RefT (List ℕ
 part l at bytes r s p q = record {
   block = equation (p .block) (q .block);
   place = equation (p .place) (q .place);
-  bytes = equation
-      (p .holds) (q .holds);
+  bytes = equation (p .holds) (q .holds);
 }
 
 -- Two answers of one meaning, a number or none.

@@ -84,8 +84,7 @@ group-read-leaves s numbers = go (groupOf s)
 pub group-write-leaves : (numbers : List ℤ) (out : List ℕ) (stood : ℕ) → (groupPut numbers out .answer .no ≡ 0 → ⊥)
     → (setAt (groupPut numbers out .answer .no) (groupPut numbers out .answer .length) stood ≡ stood) × (groupPut numbers out .out ≡ out)
 unfolding groupPut leftGroup
-group-write-leaves numbers out stood h =
-    (place-left _ _ stood h, go (ltb (length numbers) 254) (ltb 4 (whole .at numbers 0)) h)
+group-write-leaves numbers out stood h = (place-left _ _ stood h, go (ltb (length numbers) 254) (ltb 4 (whole .at numbers 0)) h)
   where
     put : Put
     put = tablePut (talkerOf (whole .at numbers 0)) (tableAt numbers) out

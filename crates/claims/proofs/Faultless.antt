@@ -120,9 +120,7 @@ datum-faultless s r g e = go (r .datum .there) refl
   where
     go : (b : Bool) → r .datum .there ≡ b
         → pirtaWrong
-        (datumTold
-        (pick b
-        (record {
+        (datumTold (pick b (record {
           first = s .first;
           second = s .second;
           datum = r .datum .value;

@@ -101,22 +101,15 @@ instances =
     (pos 0 ∷ pos 1 ∷ pos 54700 ∷ pos 1 ∷ pos 34400 ∷ pos 1 ∷ pos 5500 ∷ pos 1 ∷ pos 10200 ∷ pos 65 ∷ [])
     ∷ instance 7 "$GPZDA,201530.00,04,07,2002,-13,59*43\r\n"
     (pos 0 ∷ pos 1 ∷ pos 7293000 ∷ pos 1 ∷ pos 4 ∷ pos 7 ∷ pos 2002 ∷ pos 1 ∷ negℤ (pos 839) ∷ [])
-    ∷ instance 8 "$PIRPR,1,115200,4,0F79*33\r\n"
-    (pos 1 ∷ pos 1 ∷ pos 1 ∷ pos 115200 ∷ pos 1 ∷ pos 4 ∷ pos 1 ∷ pos 3961 ∷ [])
-    ∷ instance 9 "$PIRTR,4,-0030*57\r\n"
-    (pos 1 ∷ pos 4 ∷ pos 1 ∷ negℤ (pos 30) ∷ [])
-    ∷ instance 10 "$PIRSR,7FFEFFFF,FFFFFE,*17\r\n"
-    (pos 1 ∷ pos 2147418111 ∷ pos 1 ∷ pos 16777214 ∷ [])
+    ∷ instance 8 "$PIRPR,1,115200,4,0F79*33\r\n" (pos 1 ∷ pos 1 ∷ pos 1 ∷ pos 115200 ∷ pos 1 ∷ pos 4 ∷ pos 1 ∷ pos 3961 ∷ [])
+    ∷ instance 9 "$PIRTR,4,-0030*57\r\n" (pos 1 ∷ pos 4 ∷ pos 1 ∷ negℤ (pos 30) ∷ [])
+    ∷ instance 10 "$PIRSR,7FFEFFFF,FFFFFE,*17\r\n" (pos 1 ∷ pos 2147418111 ∷ pos 1 ∷ pos 16777214 ∷ [])
     ∷ instance 11 "$PIRER,0*40\r\n"
     []
-    ∷ instance 12 "$PIRPA,0,4800,3,007F*24\r\n"
-    (pos 0 ∷ pos 4800 ∷ pos 3 ∷ pos 127 ∷ [])
-    ∷ instance 13 "$PIRTA,3,1359*63\r\n"
-    (pos 3 ∷ pos 839 ∷ [])
-    ∷ instance 14 "$PIRSA,7FFEFFFF,FFFFFE,*04\r\n"
-    (pos 2147418111 ∷ pos 16777214 ∷ [])
-    ∷ instance 15 "$PIREA,255*51\r\n"
-    (pos 255 ∷ [])
+    ∷ instance 12 "$PIRPA,0,4800,3,007F*24\r\n" (pos 0 ∷ pos 4800 ∷ pos 3 ∷ pos 127 ∷ [])
+    ∷ instance 13 "$PIRTA,3,1359*63\r\n" (pos 3 ∷ pos 839 ∷ [])
+    ∷ instance 14 "$PIRSA,7FFEFFFF,FFFFFE,*04\r\n" (pos 2147418111 ∷ pos 16777214 ∷ [])
+    ∷ instance 15 "$PIREA,255*51\r\n" (pos 255 ∷ [])
     ∷ []
 
 -- An output of 82 bytes, and a slice of as many numbers as the longest kind has.
@@ -146,7 +139,8 @@ unfolding instances
 every-kind = refl
 
 pub instances-hold : AllHold instances
-unfolding same hexDigit hexOf hexValue noneOf bodyByte bodyBytes xorFrom xorOf endForm edgeForm lineForm endGives lineRefusal A.lookUp A.knownOf
+unfolding same hexDigit hexOf hexValue noneOf bodyByte bodyBytes xorFrom xorOf endForm edgeForm lineForm endGives
+    lineRefusal A.lookUp A.knownOf
     A.commaFree A.addressOf onto fieldsOf joinFields writtenOf leftOf faultAt maybeOf answerBy readBy faultBy fieldsFor emptyWrong
     outside rangeWrong signedWrong nearOf hexFrom hexDigitsOf printHex satellitesOf satellitesForm isPortMask portWrong isWhole wholeOf
     signedOf laid pirsrRow pirsaRow readBody readLine instances isDigit digitsFrom digitsOf printFixed findIn pairAt widthOf plainText
@@ -178,7 +172,8 @@ counted gps glonass = record { no = 0; line = 0; field = 0; gps = gps; glonass =
 
 pub p10-answered : (after 28 .answer ≡ wrote 28) × (after 28 .out ≡ ascii "$PIRSA,7FFEFFFF,FFFFFE,*04\r\n")
     × (after 28 .numbers ≡ left) × (after 27 .answer ≡ refused 8 1 0)
-unfolding same hexDigit hexOf hexValue noneOf bodyByte bodyBytes xorFrom xorOf endForm edgeForm lineForm endGives lineRefusal A.lookUp A.knownOf
+unfolding same hexDigit hexOf hexValue noneOf bodyByte bodyBytes xorFrom xorOf endForm edgeForm lineForm endGives
+    lineRefusal A.lookUp A.knownOf
     A.commaFree A.addressOf onto fieldsOf joinFields writtenOf leftOf faultAt maybeOf answerBy readBy faultBy fieldsFor emptyWrong
     outside rangeWrong signedWrong nearOf hexFrom hexDigitsOf printHex satellitesOf satellitesForm isPortMask portWrong isWhole wholeOf
     signedOf laid pirsrRow pirsaRow readBody readLine outcomeOf portGood settingsGood settingsLayout said stepped

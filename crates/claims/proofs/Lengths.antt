@@ -79,8 +79,7 @@ abbrev pub longGsa : Gsa
 longGsa = record {
   selection = 65;
   fix = 3;
-  satellites = replicate 12
-      (record { there = true; value = 5 });
+  satellites = replicate 12 (record { there = true; value = 5 });
   pdop = most;
   hdop = most;
   vdop = most;
@@ -120,6 +119,4 @@ pub no-constant-writer : (line : List ℕ) → asLine (pireaBody (code 0)) ≡ l
 unfolding faultBy pireaRow nearOf outside
 no-constant-writer line e f =
     different-bytes (asLine (pireaBody (code 0))) (asLine (pireaBody (code 1))) _ _ (C.pirea .read-write (code 0) refl)
-    (C.pirea .read-write (code 1) refl)
-    (λ q. let z : _≡_ {A = ℕ} 0 1 = ap codeOf q in omega (arith, z))
-    (e ∙ sym f)
+    (C.pirea .read-write (code 1) refl) (λ q. let z : _≡_ {A = ℕ} 0 1 = ap codeOf q in omega (arith, z)) (e ∙ sym f)

@@ -30,7 +30,8 @@ listed n line = rowText n (ascii line) (readLine (ascii line)) false
 pub worked : (listed 1 "$GPGSV,5,5,17,77,71,048,53*43\r\n" ≡ ascii "1 GPGSV ok\n")
     × ((listed 2 "$GPSGG,CSTART*6B\r\n" ≡ ascii "2 - refused 3 0\n")
     × (listed 3 "$GPGGA,000008.00,,,,,0,,,,,,*40\r\n" ≡ ascii "3 GPGGA refused 4 0\n"))
-unfolding isDigit digitsFrom digitsOf hexDigit hexOf same noneOf bodyByte bodyBytes xorFrom xorOf endForm edgeForm lineForm endGives lineRefusal
+unfolding isDigit digitsFrom digitsOf hexDigit hexOf same noneOf bodyByte bodyBytes xorFrom xorOf endForm edgeForm lineForm endGives
+    lineRefusal
     lookUp knownOf commaFree addressOf onto fieldsOf fixedOf maybeOf withinOf readBy answerBy nearOf firstOf entryAt entryFrom entriesOf
     gsvRow gsvWith ggaRow readBody readLine bind digitsWithin decimalText fiveBytes addressText answerText
 worked = (refl, (refl, refl))

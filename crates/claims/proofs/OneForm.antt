@@ -142,8 +142,7 @@ module _ (l : List ℤ) (p : ℕ) where
   unfolding placeWrong
   said-place room e =
       said-marked l p (pos 1, pos 0) (signed then signed) (λ v. record { there = v .0; lat = v .1 .0; lon = v .1 .1 }) placeWrong
-      place-spoilt room e
-      (λ i.
+      place-spoilt room e (λ i.
       let t = isThere (numberAt l p) in
       let a = first-zero (signedWrong latitudeMost t (signed .at l (p + 1))) (λ q. omega arith) i in
       let b = first-zero (signedWrong longitudeMost t (signed .at l (p + 1 + 1))) (λ q. omega arith) (a .1) in

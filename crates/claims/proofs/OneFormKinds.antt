@@ -109,20 +109,17 @@ module _ (l : List ℤ) where
 
   pub gll-said : standard gllLayout .size ≤ length l → gllWrong (gllAt l) ≡ 0 → Said gllLayout l 1
   unfolding faultBy gllRow gllLayout
-  gll-said room e =
-      (place-said ⊕ time-said ⊕ letter-said statuses clean-status ⊕ letter-said modes clean-mode) .says l 1 0 0 room e .0
+  gll-said room e = (place-said ⊕ time-said ⊕ letter-said statuses clean-status ⊕ letter-said modes clean-mode) .says l 1 0 0 room e .0
 
   pub rmc-said : standard rmcLayout .size ≤ length l → rmcWrong (rmcAt l) ≡ 0 → Said rmcLayout l 1
   unfolding faultBy rmcRow rmcLayout
-  rmc-said room e =
-      (time-said ⊕ letter-said statuses clean-status ⊕ place-said ⊕ knots-said ⊕ course-said
+  rmc-said room e = (time-said ⊕ letter-said statuses clean-status ⊕ place-said ⊕ knots-said ⊕ course-said
       ⊕ spoken-one ddmmyy said-six ⊕ spoken-one variation (λ l p. said-sign l p (halfCircle - 1) (lit< tt))
       ⊕ letter-said modes clean-mode) .says l 1 0 0 room e .0
 
   pub vtg-said : standard vtgLayout .size ≤ length l → vtgWrong (vtgAt l) ≡ 0 → Said vtgLayout l 1
   unfolding faultBy vtgRow vtgLayout
-  vtg-said room e =
-      (spoken-measured (unit "T") (λ g. g .there) (λ n. n .there) (one course) course-said
+  vtg-said room e = (spoken-measured (unit "T") (λ g. g .there) (λ n. n .there) (one course) course-said
       ⊕ spoken-measured (unit "M") (λ g. g .there) (λ n. n .there) (one course) course-said
       ⊕ spoken-measured (unit "N") (λ g. g .there) (λ n. n .there) (one knots) knots-said
       ⊕ spoken-measured (unit "K") (λ g. g .there) (λ n. n .there) (one kmh) kmh-said
@@ -130,8 +127,7 @@ module _ (l : List ℤ) where
 
   pub zda-said : standard zdaLayout .size ≤ length l → zdaWrong (zdaAt l) ≡ 0 → Said zdaLayout l 1
   unfolding faultBy zdaRow zdaLayout
-  zda-said room e =
-      (time-said ⊕ spoken-one dayMonthYear said-three ⊕ spoken-one hoursMinutes (λ l p. said-sign l p zoneMost (lit< tt)))
+  zda-said room e = (time-said ⊕ spoken-one dayMonthYear said-three ⊕ spoken-one hoursMinutes (λ l p. said-sign l p zoneMost (lit< tt)))
       .says l 1 0 0 room e .0
 
   pub gsa-said : standard gsaLayout .size ≤ length l → gsaWrong (gsaAt l) ≡ 0 → Said gsaLayout l 1
@@ -198,8 +194,7 @@ needed-said : (f : Form Got Maybe)
     → ((l : List ℤ) (p : ℕ) → p + f .layout .size ≤ length l → f .fault (f .layout .at l p) ≡ 0 → Said (f .layout) l p)
     → (key : Bool) → Spoken (one (needed f key))
 needed-said f h key =
-    spoken-one (needed f key)
-    (λ l p room e. h l p room (alike-parts key (f .layout .at l p .there) (f .fault (f .layout .at l p)) e .1))
+    spoken-one (needed f key) (λ l p room e. h l p room (alike-parts key (f .layout .at l p .there) (f .fault (f .layout .at l p)) e .1))
 
 mask-said : (w hi : ℕ) → hi < most → Spoken (one (satelliteMask w hi))
 mask-said w hi h = spoken-one (satelliteMask w hi) (λ l p. said-range l p 0 hi h)
@@ -227,8 +222,7 @@ gps-said l room over e =
 module _ (l : List ℤ) where
   pub pirpr-said : pirprLayout .size ≤ length l → pirprWrong (pirprAt l) ≡ 0 → Said pirprLayout l 0
   unfolding faultBy pirprRow pirprLayout
-  pirpr-said room e =
-      (fixed-said 1 0 portMost (lit< tt)
+  pirpr-said room e = (fixed-said 1 0 portMost (lit< tt)
       ⊕ spoken-depending 2 7 (maybeLayout then maybeLayout) (λ g. g .there) (λ m. m .there) (one rate) setting (λ k. refl)
       (spoken-one rate (λ l p. said-range l p rateLeast rateMost (lit< tt)))
       (λ key. needed-said (fixed 1 0 protocolMost) (λ l p. said-range l p 0 protocolMost (lit< tt)) key
@@ -238,8 +232,7 @@ module _ (l : List ℤ) where
   unfolding faultBy pirtrRow pirtrLayout
   pirtr-said room e =
       spoken-depending 1 6 zoneLayout (λ g. g .there) (λ m. m .there) (one (fixed 1 0 datumMost)) zone (λ k. refl)
-      (fixed-said 1 0 datumMost (lit< tt))
-      (λ key. spoken-one (hhmm key)
+      (fixed-said 1 0 datumMost (lit< tt)) (λ key. spoken-one (hhmm key)
       (λ l p room i. said-sign l p zoneMost (lit< tt) room (alike-parts key (zoneLayout .at l p .there) _ i .1)))
       .says l 0 0 0 room e .0
 
@@ -253,14 +246,12 @@ module _ (l : List ℤ) where
 
   pub pirpa-said : pirpaLayout .size ≤ length l → pirpaWrong (pirpaAt l) ≡ 0 → Said pirpaLayout l 0
   unfolding faultBy pirpaRow pirpaLayout rangeWrong
-  pirpa-said room e =
-      (exact-said 1 0 portMost (lit< tt) ⊕ spoken-one (filled rate) (λ l p. said-outside l p rateLeast rateMost (lit< tt))
+  pirpa-said room e = (exact-said 1 0 portMost (lit< tt) ⊕ spoken-one (filled rate) (λ l p. said-outside l p rateLeast rateMost (lit< tt))
       ⊕ exact-said 1 0 protocolMost (lit< tt) ⊕ spoken-one (filled portMask) said-filled-port) .says l 0 0 0 room e .0
 
   pub pirta-said : pirtaLayout .size ≤ length l → pirtaWrong (pirtaAt l) ≡ 0 → Said pirtaLayout l 0
   unfolding faultBy pirtaRow pirtaLayout
-  pirta-said room e =
-      (exact-said 1 0 datumMost (lit< tt)
+  pirta-said room e = (exact-said 1 0 datumMost (lit< tt)
       ⊕ spoken-one filledZone (λ l p room i. said-signed l p room (signed-below zoneMost true _ (lit< tt) i))) .says l 0 0 0 room e .0
 
   pub pirsa-said : pirsaLayout .size ≤ length l → not (isWhole (numberAt l 0)) ≡ false → pirsaWrong (pirsaAt l) ≡ 0 → Said pirsaLayout l 0

@@ -60,8 +60,7 @@ module _ (s : Settings) (p : ℕ) {out : List ℕ} {d : Done} {left : List ℕ} 
 
   pub test-reply : Does s (sentenceOutcome s p S.Er) out d left → d .written .no ≡ 0
       → readLine (take (d .written .length) left) ≡ S.Ea (codeTold (d .settings))
-  test-reply w h = Writing.pirea-back (codeTold s) (writes w) h ∙ ap (λ (x : Settings). S.Ea (codeTold x))
-      (sym (settings-are w h))
+  test-reply w h = Writing.pirea-back (codeTold s) (writes w) h ∙ ap (λ (x : Settings). S.Ea (codeTold x)) (sym (settings-are w h))
 
 -- The settings in range, part by part.
 pub record InRange (s : Settings) : Type 0 where
@@ -137,8 +136,7 @@ after-port-in s p r g e = go (r .rate .there) e
   where
     go : (b : Bool) → pirpaWrong (portTold (pick b (withPort s (namedPort p r) (portAsked r)) s) (namedPort p r)) ≡ 0
         → InRange (pick b (withPort s (namedPort p r) (portAsked r)) s)
-    go true i = with-in (namedPort p r) s (portAsked r) g
-        (port-in (namedPort p r) (portAsked r)
+    go true i = with-in (namedPort p r) s (portAsked r) g (port-in (namedPort p r) (portAsked r)
         (ap (λ (q : Port). pirpaWrong (record { port = namedPort p r; rate = q .rate; protocol = q .protocol; mask = q .mask }))
         (sym (port-set (namedPort p r) s (portAsked r))) ∙ i))
     go false i = g
@@ -149,9 +147,7 @@ after-datum-in s r g e = go (r .datum .there) e
   where
     go : (b : Bool)
         → pirtaWrong
-        (datumTold
-        (pick b
-        (record {
+        (datumTold (pick b (record {
           first = s .first;
           second = s .second;
           datum = r .datum .value;
@@ -162,8 +158,7 @@ after-datum-in s r g e = go (r .datum .there) e
           code = s .code;
         }) s)) ≡ 0
         → InRange
-        (pick b
-        (record {
+        (pick b (record {
           first = s .first;
           second = s .second;
           datum = r .datum .value;

@@ -153,8 +153,7 @@ module _ (body : List ℕ) (room : length body ≤ 76) where
   standard-written : (t : Talker) (k : Kind) → addressOf body ≡ Standard t k
       → CanBeWritten (standardOf t k (length (fieldsOf body) - 1) (theFields body))
   standard-written t K.Gga a =
-      N.gga .write-read t (length (fieldsOf body) - 1) (theFields body) CanBeWritten (λ n f. tt)
-      (λ r c w u. (
+      N.gga .write-read t (length (fieldsOf body) - 1) (theFields body) CanBeWritten (λ n f. tt) (λ r c w u. (
         w,
         fits (ggaBody t r) (omega (
           arith,
@@ -164,8 +163,7 @@ module _ (body : List ℕ) (room : length body ≤ 76) where
         )),
       ))
   standard-written t K.Rmc a =
-      N.rmc .write-read t (length (fieldsOf body) - 1) (theFields body) CanBeWritten (λ n f. tt)
-      (λ r c w u. (
+      N.rmc .write-read t (length (fieldsOf body) - 1) (theFields body) CanBeWritten (λ n f. tt) (λ r c w u. (
         w,
         fits (rmcBody t r) (omega (
           arith,
@@ -184,8 +182,7 @@ module _ (body : List ℕ) (room : length body ≤ 76) where
       N.zda .write-read t (length (fieldsOf body) - 1) (theFields body) CanBeWritten (λ n f. tt)
       (λ r c w u. (w, fits (zdaBody t r) (N.zda-fits t r w)))
   standard-written t K.Gsa a =
-      TGsa.write-read t (length (fieldsOf body) - 1) (theFields body) CanBeWritten (λ n f. tt)
-      (λ r e c w u. (
+      TGsa.write-read t (length (fieldsOf body) - 1) (theFields body) CanBeWritten (λ n f. tt) (λ r e c w u. (
         w,
         fits (gsaBody t r) (omega (
           arith,

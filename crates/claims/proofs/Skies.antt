@@ -84,8 +84,7 @@ group-same-bytes g t es e {out} {answer} {left} room w =
     let said : answer ≡ wrote (length (groupText t (tableOf es))) = w .answers
     ∙ rw (
       eq-eqb (tableFault (tableOf es) .no) 0 good,
-      le-ltb (length out) (length (groupText t (tableOf es)))
-          (omega (arith, room, long)),
+      le-ltb (length out) (length (groupText t (tableOf es))) (omega (arith, room, long)),
     ) in
     let n = ap (λ (a : Written). a .no) said in (
       said ∙ ap wrote long,

@@ -37,8 +37,7 @@ module _ (lo hi : ℕ) (s : List ℕ) (v : ℕ) (e : digitsOf lo hi s ≡ some v
 
   -- The digits are as many as they may be.
   pub digits-count : (lo ≤ length s) × (length s ≤ hi)
-  digits-count =
-      (leb-true _ _ (and-left _ _ (opened .0)), leb-true _ _ (and-left _ _ (and-right (leb lo (length s)) _ (opened .0))))
+  digits-count = (leb-true _ _ (and-left _ _ (opened .0)), leb-true _ _ (and-left _ _ (and-right (leb lo (length s)) _ (opened .0))))
 
   -- As many digits as there are.
   pub digits-len : v < 10 ^ length s

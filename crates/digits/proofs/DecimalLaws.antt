@@ -59,14 +59,8 @@ unfolding printFixed digitsFrom isDigit
 digits-rt zero n acc = rw (mul-one, mod-one, add-zero)
 digits-rt (suc w) n acc =
     digits-snoc (printFixed w (n / 10)) (48 + n % 10) acc _ (digits-rt w (n / 10) acc)
-    ∙ rw (
-      le-leb 48 (48 + n % 10) (omega arith),
-      le-leb (48 + n % 10) 57 (omega arith),
-      add-sub-cancel-left 48 (n % 10),
-      sum-up,
-      pow-suc,
-      mod-mul n {m = 10 ^ w} {c = 10} (one-le-pow w 10 (lit< tt)) (lit< tt),
-    )
+    ∙ rw (le-leb 48 (48 + n % 10) (omega arith), le-leb (48 + n % 10) 57 (omega arith), add-sub-cancel-left 48 (n % 10), sum-up)
+    (rw (pow-suc, mod-mul n {m = 10 ^ w} {c = 10} (one-le-pow w 10 (lit< tt)) (lit< tt)))
 
 pub fixed-rt : (w n : ℕ) → w ≤ 9 → n < 10 ^ w → digitsOf w w (printFixed w n) ≡ some n
 unfolding digitsOf

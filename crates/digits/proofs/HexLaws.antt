@@ -31,8 +31,7 @@ hex-inj a b e = sym (value-of a) ∙ ap hexValue e ∙ value-of b
 pub hex-is : (n : ℕ) → n < 16 → hexDigit (hexOf n) ≡ true
 unfolding hexDigit
 hex-is n h =
-    ⊎-elim (λ p. rw (p .1) (simp (le-leb 48 (n + 48) (omega arith), le-leb (n + 48) 57 (omega arith))))
-    (λ p. rw (p .1) (simp (
+    ⊎-elim (λ p. rw (p .1) (simp (le-leb 48 (n + 48) (omega arith), le-leb (n + 48) 57 (omega arith)))) (λ p. rw (p .1) (simp (
       le-leb 48 (n + 55) (omega arith),
       lt-leb (n + 55) 57 (omega arith),
       le-leb 65 (n + 55) (omega arith),

@@ -30,8 +30,7 @@ unpadded (suc m) n h k =
     rw (
       length-fixed (suc (suc m)) n,
       le-leb 2 (suc (suc m)) (omega arith),
-      ne-eqb (getD (printFixed (suc (suc m)) n) 0 0) 48
-          (λ e. let z : ⊥ = omega (arith, e, f) in absurd z),
+      ne-eqb (getD (printFixed (suc (suc m)) n) 0 0) 48 (λ e. let z : ⊥ = omega (arith, e, f) in absurd z),
     )
 
 few : (m n : ℕ) → n ≤ most → (1 ≤ m → 10 ^ m ≤ n) → m ≤ 9

@@ -45,8 +45,7 @@ module _ (l : List ℕ) (n : ℕ) where
   -- the nth of the fields, in the line
   in-line : addressRefusal l ≡ 0 → n < length (fieldsOf (bodyOf l))
       → Holds l (startOf n (fieldsOf (bodyOf l)) + 1)
-      (startOf n (fieldsOf (bodyOf l)) + 1 + length (getD (fieldsOf (bodyOf l)) n []))
-      (getD (fieldsOf (bodyOf l)) n [])
+      (startOf n (fieldsOf (bodyOf l)) + 1 + length (getD (fieldsOf (bodyOf l)) n [])) (getD (fieldsOf (bodyOf l)) n [])
   in-line a h =
       let s = startOf n (fieldsOf (bodyOf l)) in
       let k = length (getD (fieldsOf (bodyOf l)) n []) in
@@ -60,8 +59,7 @@ module _ (l : List ℕ) (n : ℕ) where
         ordered = omega arith;
         inside = omega (arith, f .inside, m, long);
         holds =
-            rw (w, d)
-            (ap (λ (t : List ℕ). take k t) (sym (drop-drop s 1 l))
+            rw (w, d) (ap (λ (t : List ℕ). take k t) (sym (drop-drop s 1 l))
             ∙ sym (of-front k s (length l - 6) (drop 1 l) (omega (arith, f .inside, m)))
             ∙ f .bytes);
       }

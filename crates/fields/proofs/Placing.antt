@@ -115,12 +115,8 @@ module _ (p : List ℕ) (k : ℕ) (s : List ℕ) where
       module _ (z : k ≡ 0 → ⊥) where
         pub not-past : getD p k 0 ≤ getD p (k - 1) 0 → (0 ≡ placeIn p k s) × ([] ≡ fieldIn p k s)
         unfolding isIn
-        not-past o = no-part (rw (
-          lt-ltb k (length p) h,
-          le-leb (getD p k 0) (length s) l,
-          later-start z,
-          lt-leb (getD p (k - 1) 0 + 1) (getD p k 0) (omega arith),
-        ))
+        not-past o = no-part (rw (lt-ltb k (length p) h, le-leb (getD p k 0) (length s) l, later-start z)
+            (rw (lt-leb (getD p (k - 1) 0 + 1) (getD p k 0) (omega arith))))
 
         pub later-part : getD p (k - 1) 0 < getD p k 0
             → (getD p (k - 1) 0 + 1 ≡ placeIn p k s)

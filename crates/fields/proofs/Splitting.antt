@@ -64,8 +64,7 @@ past-comma i es fs b s (suc k) ih h = let r =
     ih k (omega arith) in record {
       end = omega (arith, r .end);
       bytes = rw (one-more (startOf k fs)) (r .bytes);
-      inside = omega
-          (arith, r .inside);
+      inside = omega (arith, r .inside);
     }
 
 past-other : (i : ℕ) (es : List ℕ) (f : List ℕ) (fs : List (List ℕ)) (b : ℕ) (s : List ℕ) (k : ℕ) → FieldAt (i + 1) es (f ∷ fs) s k

@@ -96,8 +96,7 @@ from-within : (a n i : ℕ) (t : List ℕ) → a + n ≤ i → (a ≤ foundFrom 
     × (foundFrom n i t .end ≤ i + length t)
 from-within a =
     found-ind (λ n i t r. a + n ≤ i → (a ≤ r .start) × (r .start ≤ r .end) × (r .end ≤ i + length t))
-    (λ n i h. (omega arith, omega arith, omega arith))
-    (λ n i b t k h. let l = ends-le n b in (omega arith, omega arith, omega arith))
+    (λ n i h. (omega arith, omega arith, omega arith)) (λ n i b t k h. let l = ends-le n b in (omega arith, omega arith, omega arith))
     (λ n i b t r k x h. let l = held-le n b in let y = x (omega arith) in (omega arith, omega arith, omega arith))
 
 -- The byte b at place i: the bytes up to it, and those behind it.

@@ -40,16 +40,9 @@ clean-fixed (suc w) n = clean-append (printFixed w (n / 10)) ((48 + n % 10) ∷ 
 body-byte : (b : ℕ) → 44 ≤ b → b < 92 → bodyByte b ≡ true
 unfolding bodyByte noneOf
 body-byte b h k =
-    rw (
-      le-leb 32 b (omega arith),
-      le-leb b 126 (omega arith),
-      ne-eqb b 36 (λ e. omega arith),
-      ne-eqb b 42 (λ e. omega arith),
-      ne-eqb b 33 (λ e. omega arith),
-      ne-eqb b 92 (λ e. omega arith),
-      ne-eqb b 94 (λ e. omega arith),
-      ne-eqb b 126 (λ e. omega arith),
-    )
+    rw (le-leb 32 b (omega arith), le-leb b 126 (omega arith), ne-eqb b 36 (λ e. omega arith), ne-eqb b 42 (λ e. omega arith))
+    (rw (ne-eqb b 33 (λ e. omega arith), ne-eqb b 92 (λ e. omega arith), ne-eqb b 94 (λ e. omega arith))
+    (rw (ne-eqb b 126 (λ e. omega arith))))
 
 clean-body : (s : List ℕ) → Clean s → bodyBytes s ≡ true
 unfolding bodyBytes

@@ -43,8 +43,7 @@ put-from {field = field} k l c e =
     }
 
 -- Whether the k-th is named goes by the fields up to it.
-module _ {G X : Type 0} (f : Form G X)
-    (own : (field other : ℕ → List ℕ) → Agree field other suc (f .width) → f .got other ≡ f .got field)
+module _ {G X : Type 0} (f : Form G X) (own : (field other : ℕ → List ℕ) → Agree field other suc (f .width) → f .got other ≡ f .got field)
     (within : (field : ℕ → List ℕ) → named f field ≤ f .width)
     (decided : (field other : ℕ → List ℕ) (k : ℕ) → 0 < k → k < f .width → Agree field other suc k
     → eqb (named f other) k ≡ eqb (named f field) k) where

@@ -16,8 +16,7 @@ module _ {G R : Type 0} (out : List ℤ) (row : Row G R) (make : R → Answer) {
   pub tells-wrong : (g : G) (w : ℕ) → t ≡ told 5 0 w → w ≡ row .wrong g 0 0 → (w ≡ 0 → ⊥) → Tells (answerBy (refuses out) row make g) t out
   unfolding answerBy
   tells-wrong g w e i h =
-      tells-refused e
-      (ap (λ (n : ℕ). refuses out 5 n) i
+      tells-refused e (ap (λ (n : ℕ). refuses out 5 n) i
       ∙ ap (λ (b : Bool). pick b (make (row .value g)) (refuses out 5 (row .wrong g 0 0)))
       (sym (ne-eqb (row .wrong g 0 0) 0 (λ z. h (i ∙ z)))))
 
@@ -25,8 +24,7 @@ module _ {G R : Type 0} (out : List ℤ) (row : Row G R) (make : R → Answer) {
       → Tells (answerBy (refuses out) row make g) t left
   unfolding answerBy
   tells-right g v p h e =
-      tells-as p
-      (ap make e
+      tells-as p (ap make e
       ∙ ap (λ (b : Bool). pick b (make (row .value g)) (refuses out 5 (row .wrong g 0 0))) (sym (eq-eqb (row .wrong g 0 0) 0 h)))
 
   module _ (n : ℕ) (field : ℕ → List ℕ) where
@@ -40,6 +38,5 @@ module _ {G R : Type 0} (out : List ℤ) (row : Row G R) (make : R → Answer) {
         → Tells (readBy (refuses out) row make n field) t left
     unfolding readBy
     tells-fields g p h e =
-        tells-as p
-        (ap (answerBy (refuses out) row make) e
+        tells-as p (ap (answerBy (refuses out) row make) e
         ∙ ap (λ (b : Bool). pick b (answerBy (refuses out) row make (row .got field 0)) (refuses out 4 0)) (sym (eq-eqb n (row .width) h)))

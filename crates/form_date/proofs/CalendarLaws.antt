@@ -45,8 +45,7 @@ at-sound a b c (some d) (some m) (some y) = pick-sound (isDate d m y) (theDate d
 pub six-sound : (f : List ℕ) → Sound (dateSix f)
 unfolding dateSix
 six-sound f =
-    pick-sound (eqb (length f) 0) _ _ (λ e. no-sound 0)
-    (pick-sound (eqb (length f) 6) _ _ (λ e. at-sound 1 1 1 _ _ _) (no-sound 1))
+    pick-sound (eqb (length f) 0) _ _ (λ e. no-sound 0) (pick-sound (eqb (length f) 6) _ _ (λ e. at-sound 1 1 1 _ _ _) (no-sound 1))
 
 -- What ZDA's three fields give.
 pub three-sound : (d m y : List ℕ) → Sound (dateThree d m y)
@@ -193,15 +192,9 @@ module _ (d m y : ℕ) where
   unfolding dateThree dateAt
   text-three e =
       let r = date-ranges d m y e in
-      rw (
-        length-fixed 2 d,
-        fixed-rt 2 d (lit≤ tt) (omega arith),
-        fixed-rt 2 m (lit≤ tt) (omega arith),
-        fixed-rt 4 y (lit≤ tt) (omega arith),
-        within-yes 1 31 d (r .day-from) (r .day-to),
-        within-yes 1 12 m (r .month-from) (r .month-to),
-        e,
-      )
+      rw (length-fixed 2 d, fixed-rt 2 d (lit≤ tt) (omega arith), fixed-rt 2 m (lit≤ tt) (omega arith))
+      (rw (fixed-rt 4 y (lit≤ tt) (omega arith), within-yes 1 31 d (r .day-from) (r .day-to))
+      (rw (within-yes 1 12 m (r .month-from) (r .month-to), e)))
 
 -- Three fields that ZDA reads as a date are the texts of its parts, and it exists.
 pub three-text : (a b c : List ℕ) (d m y : ℕ) → dateThree a b c ≡ theDate d m y

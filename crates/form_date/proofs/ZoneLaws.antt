@@ -77,8 +77,7 @@ four-parts : (f : List ℕ) (z : ℤ) → zoneFour f ≡ some z
 unfolding zoneFour
 four-parts f z e =
     let t = through (eqb (length (bareOf f)) 4)
-    (bind (withinOf 0 13 (pairAt 0 (bareOf f))) λ h. bind (withinOf 0 59 (pairAt 2 (bareOf f))) λ m. zoneOf (minus f)
-    (h * 60 + m)) z e in
+    (bind (withinOf 0 13 (pairAt 0 (bareOf f))) λ h. bind (withinOf 0 59 (pairAt 2 (bareOf f))) λ m. zoneOf (minus f) (h * 60 + m)) z e in
     (eqb-true (length (bareOf f)) 4 (t .0), parts (minus f) _ _ z (t .1))
 
 -- A zone in one field is within 839 minutes of zero.
@@ -250,12 +249,7 @@ module _ (z : ℤ) (k : natAbs z ≤ 839) where
   unfolding zoneTwo zoneAt bind
   text-two =
       let t = rw append-nil at (signed-first z (natAbs z / 60) []) in
-      rw (
-        ne-eqb (length (signText z ++ printFixed 2 (natAbs z / 60))) 0 (λ e. some-bytes z (natAbs z / 60) e),
-        t .1,
-        fixed-rt 2 (natAbs z / 60) (lit≤ tt) (omega arith),
-        fixed-rt 2 (natAbs z % 60) (lit≤ tt) (omega arith),
-        within-yes 0 13 (natAbs z / 60) (omega arith) (omega arith),
-        within-yes 0 59 (natAbs z % 60) (omega arith) (omega arith),
-        joined _ (t .0),
-      )
+      rw (ne-eqb (length (signText z ++ printFixed 2 (natAbs z / 60))) 0 (λ e. some-bytes z (natAbs z / 60) e), t .1)
+      (rw (fixed-rt 2 (natAbs z / 60) (lit≤ tt) (omega arith), fixed-rt 2 (natAbs z % 60) (lit≤ tt) (omega arith))
+      (rw (within-yes 0 13 (natAbs z / 60) (omega arith) (omega arith), within-yes 0 59 (natAbs z % 60) (omega arith) (omega arith))
+      (rw (joined _ (t .0)))))

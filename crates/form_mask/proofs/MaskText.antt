@@ -69,14 +69,8 @@ unfolding printHex hexFrom
 hex-rt zero v n = rw (mul-one, mod-one, add-zero)
 hex-rt (suc w) v n =
     snoc (printHex w (v / 16)) (hexOf (v % 16)) n _ (hex-rt w (v / 16) n)
-    ∙ rw (
-      hex-is (v % 16) (omega arith),
-      value-of (v % 16),
-      sum-up,
-      pow-suc,
-      mod-mul v {m = 16 ^ w} {c = 16} (one-le-pow w 16 (lit< tt))
-          (lit< tt),
-    )
+    ∙ rw (hex-is (v % 16) (omega arith), value-of (v % 16), sum-up, pow-suc)
+    (rw (mod-mul v {m = 16 ^ w} {c = 16} (one-le-pow w 16 (lit< tt)) (lit< tt)))
 
 -- What is printed in lo to hi digits, and no more than eight, is read again.
 pub text-hex : (lo hi w v : ℕ) → lo ≤ w → w ≤ hi → w ≤ 8 → v < 16 ^ w → hexDigitsOf lo hi (printHex w v) ≡ some v

@@ -45,13 +45,8 @@ find-point w n t = find-past 46 w n (46 ∷ t) (lit< tt) ∙ zero-add w
 whole-reads : (k n : ℕ) → 1 ≤ k → k ≤ 6 → n < 10 ^ k → numberOf (printFixed k n) ≡ some (n * 1000)
 unfolding numberOf before bind
 whole-reads k n a b h =
-    rw (
-      find-fixed,
-      length-fixed,
-      take-all k (printFixed k n) (omega (arith, length-fixed k n)),
-      digits-read 1 6 k n a b (omega arith) h,
-      le-ltb k k (omega arith),
-    )
+    rw (find-fixed, length-fixed, take-all k (printFixed k n) (omega (arith, length-fixed k n)))
+    (rw (digits-read 1 6 k n a b (omega arith) h, le-ltb k k (omega arith)))
 
 pointed-reads : (k n j m : ℕ) → 1 ≤ k → k ≤ 6 → n < 10 ^ k → 1 ≤ j → j ≤ 3 → m < 10 ^ j
     → numberOf (printFixed k n ++ (46 ∷ printFixed j m)) ≡ some (n * 1000 + m * 10 ^ (3 - j))
@@ -62,15 +57,8 @@ pointed-reads k n j m a b h c d i =
     let f : k < length (printFixed k n ++ (46 ∷ printFixed j m)) = rw l (omega arith) in
     let p : drop (k + 1) (printFixed k n ++ (46 ∷ printFixed j m)) ≡ printFixed j m =
     rw (ap (λ (x : ℕ). x + 1) (sym (length-fixed k n)), drop-append-add) in
-    rw (
-      find-point,
-      lt-ltb _ _ f,
-      take-at (printFixed k n) (46 ∷ printFixed j m) k (length-fixed k n),
-      digits-read 1 6 k n a b (omega arith) h,
-      p,
-      length-fixed,
-      digits-read 1 3 j m c d (omega arith) i,
-    )
+    rw (find-point, lt-ltb _ _ f, take-at (printFixed k n) (46 ∷ printFixed j m) k (length-fixed k n))
+    (rw (digits-read 1 6 k n a b (omega arith) h, p, length-fixed, digits-read 1 3 j m c d (omega arith) i))
 
 -- Each number reads as its value.
 pub number-reads : {f : List ℕ} {v : ℕ} → Written f v → numberOf f ≡ some v
@@ -108,8 +96,7 @@ number-is f v e = go (digitsOf 1 6 (before f)) refl e
         let t : printFixed (length (before f)) n ++ (46 ∷ printFixed (length (behind f)) m) ≡ f =
         rw (← digits-are 1 6 (before f) n d, ← digits-are 1 3 (behind f) m i) (sym (at-point f h)) in
         let p : n * 1000 + m * 10 ^ (3 - length (behind f)) ≡ v = Option·some-injective _ v q in
-        subst (λ (x : ℕ). Written f x) p
-        (subst (λ (l : List ℕ). Written l (n * 1000 + m * 10 ^ (3 - length (behind f)))) t
+        subst (λ (x : ℕ). Written f x) p (subst (λ (l : List ℕ). Written l (n * 1000 + m * 10 ^ (3 - length (behind f)))) t
         (pointed (a .0) (a .1) (digits-len 1 6 (before f) n d) (b .0) (b .1) (digits-len 1 3 (behind f) m i)))
 
     by-point : (n : ℕ) (t : Bool) → digitsOf 1 6 (before f) ≡ some n → ltb (findIn 46 f) (length f) ≡ t

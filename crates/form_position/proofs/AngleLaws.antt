@@ -67,8 +67,7 @@ module _ (k : ℕ) where
   unfolding sidedOf
   sided-size plus minus f u o h =
       chosen (eqb (length f) 0) (pick (eqb (length u) 0) missingInt (wrongInt 2 false)) (letteredOf plus minus u o)
-      (chosen (eqb (length u) 0) missingInt (wrongInt 2 false) (omega arith) (omega arith))
-      (lettered-size plus minus u o h)
+      (chosen (eqb (length u) 0) missingInt (wrongInt 2 false) (omega arith) (omega arith)) (lettered-size plus minus u o h)
 
   angle-small : (w : ℕ) (f : List ℕ) (o : Option ℕ) → angleOf w k f ≡ o → Under (suc k) o
   angle-small w f (some v) e = omega (arith, angle-le w k f v e)
@@ -90,8 +89,7 @@ both-size k l a o h i =
     chosen-place k l (eqb (a .wrong) 0) (pick differ (refusedAt 3) last) (refusedAt (a .wrong))
     (chosen-place k l differ (refusedAt 3) last (omega arith, omega arith)
     (chosen-place k l (eqb (o .wrong) 0) (record { wrong = 0; there = a .there; lat = a .value; lon = o .value }) (refusedAt 4) (h, i)
-    (omega arith, omega arith)))
-    (omega arith, omega arith)
+    (omega arith, omega arith))) (omega arith, omega arith)
 
 -- A latitude is at most 90 degrees north or south, and a longitude at most 180 degrees east or west.
 pub position-range : (lat ns lon ew : List ℕ)
@@ -116,6 +114,5 @@ variation-range f u =
     chosen 179999 (eqb (length f) 0) (pick (eqb (length u) 0 || (same u (ascii "E") || same u (ascii "W"))) missingInt (wrongInt 2 false))
     (letteredOf (ascii "E") (ascii "W") u (belowOf 180000 f))
     (chosen 179999 (eqb (length u) 0 || (same u (ascii "E") || same u (ascii "W"))) missingInt (wrongInt 2 false) (omega arith)
-    (omega arith))
-    (lettered-size 179999 (ascii "E") (ascii "W") u (belowOf 180000 f) (below-small f (belowOf 180000 f) refl)) in
+    (omega arith)) (lettered-size 179999 (ascii "E") (ascii "W") u (belowOf 180000 f) (below-small f (belowOf 180000 f) refl)) in
     omega arith

@@ -109,17 +109,7 @@ angle-reads w limit v h i k =
     let d : drop w (a ++ (b ++ (46 ∷ c))) ≡ b ++ (46 ∷ c) = drop-at a (b ++ (46 ∷ c)) w (length-fixed w (v / 600000)) in
     let r : drop (w + 3) (a ++ (b ++ (46 ∷ c))) ≡ c = past-point a b c w (length-fixed w (v / 600000)) (length-fixed 2 (v / 10000 % 60)) in
     let s : v / 600000 * 600000 + v / 10000 % 60 * 10000 + v % 10000 ≡ v = omega arith in
-    rw (
-      eq-eqb _ _ l,
-      eq-eqb _ _ g,
-      take-at a (b ++ (46 ∷ c)) w (length-fixed w (v / 600000)),
-      d,
-      take-at b (46 ∷ c) 2 (length-fixed 2 (v / 10000 % 60)),
-      r,
-      fixed-rt w (v / 600000) h (omega arith),
-      fixed-rt 2 (v / 10000 % 60) (omega arith) (omega arith),
-      fixed-rt 4 (v % 10000) (omega arith) (omega arith),
-      lt-ltb (v / 10000 % 60) 60 (omega arith),
-      s,
-      le-leb v limit i,
-    )
+    rw (eq-eqb _ _ l, eq-eqb _ _ g, take-at a (b ++ (46 ∷ c)) w (length-fixed w (v / 600000)), d)
+    (rw (take-at b (46 ∷ c) 2 (length-fixed 2 (v / 10000 % 60)), r, fixed-rt w (v / 600000) h (omega arith))
+    (rw (fixed-rt 2 (v / 10000 % 60) (omega arith) (omega arith), fixed-rt 4 (v % 10000) (omega arith) (omega arith))
+    (rw (lt-ltb (v / 10000 % 60) 60 (omega arith), s, le-leb v limit i))))

@@ -212,8 +212,7 @@ unfolding positionForm latitudeOf longitudeOf bothOf same
 position-reads {lat} {ns} {lon} {ew} {a} {o} p q =
     rw (
       half-reads (ascii "N") (ascii "S") 2 54000000 (lit≤ tt) (lit< tt) refl p,
-      half-reads (ascii "E") (ascii "W") 3 108000000 (lit≤ tt)
-          (lit< tt) refl q,
+      half-reads (ascii "E") (ascii "W") 3 108000000 (lit≤ tt) (lit< tt) refl q,
     )
 
 -- And four empty fields are a missing position.

@@ -86,8 +86,7 @@ module _ (lat ns lon ew : List ℕ) where
       go : (t : Bool) → P .there ≡ t → PlaceRead lat ns lon ew (placedOf P)
       go true q = subst (λ (t : Bool). PlaceRead lat ns lon ew (record { there = t; lat = P .lat; lon = P .lon })) (sym q) (there-read e q)
       go false q =
-          subst (λ (p : Position). PlaceRead lat ns lon ew (placedOf p)) (sym (none-is e q))
-          (record {
+          subst (λ (p : Position). PlaceRead lat ns lon ew (placedOf p)) (sym (none-is e q)) (record {
             range = place-good (record { there = false; lat = pos 0; lon = pos 0 }) (signed-missing 54000000) (signed-missing 108000000);
             lat-short = omega arith;
             ns-short = omega arith;

@@ -42,8 +42,7 @@ long-time m = length-if (m .there) (clockText (m .value)) 9 (length-clock (m .va
 clock-reads : (v : ℕ) → 0 ≤ v → v ≤ 8639999 → timeOf (clockText v) ≡ some v
 unfolding isTime
 clock-reads v l h =
-    text-time (clockText v) v
-    (record {
+    text-time (clockText v) v (record {
       hours = v / 360000;
       minutes = v / 6000 % 60;
       seconds = v / 100 % 60;

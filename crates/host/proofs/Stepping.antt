@@ -18,8 +18,7 @@ use Rattle.host.specs.Command.{carried, stepped}
 
 module _ (n : List ℤ) (arrival : ℕ) (line out : List ℕ) where
   abbrev Steps : Written → List ℤ → List ℕ → Type 0
-  Steps w numbers left =
-      (w ≡ stepped n arrival line out .answer)
+  Steps w numbers left = (w ≡ stepped n arrival line out .answer)
       × ((numbers ≡ stepped n arrival line out .numbers) × (left ≡ stepped n arrival line out .out))
 
   pub short : said n ≡ false → {w : Written} → w ≡ refused 5 0 0 → Steps w n out
@@ -43,9 +42,7 @@ module _ (n : List ℤ) (arrival : ℕ) (line out : List ℕ) where
 
     pub answered : d .written .no ≡ 0 → {numbers : List ℤ} → numbers ≡ laid (settingNumbers (d .settings)) n
         → Steps (d .written) numbers left
-    answered z q =
-        goes
-        (q
+    answered z q = goes (q
         ∙ ap (λ (s : Settings). laid (settingNumbers s) n) (does .settings)
         ∙ sym (ap (λ (b : Bool). pick b after n) (eq-eqb (answerOf outcome (length out) .no) 0 (sym no-is ∙ z))))
 

@@ -220,13 +220,8 @@ answer-is : (buffer : List ℕ) (used : ℕ) (e : Entry) (x : Room buffer used e
     → addedIndex buffer used e .length ≡ used + length (entryBytes (lastOf origin (x .old)) e)
 unfolding addedIndex
 answer-is buffer used e x =
-    rw (
-      le-ltb (length buffer) used (x .within),
-      x .reading,
-      x .fit,
-      le-ltb (length buffer)
-          (used + length (entryBytes (lastOf origin (x .old)) e)) (x .room),
-    )
+    rw (le-ltb (length buffer) used (x .within), x .reading, x .fit)
+    (rw (le-ltb (length buffer) (used + length (entryBytes (lastOf origin (x .old)) e)) (x .room)))
 
 left-is : (buffer : List ℕ) (used : ℕ) (e : Entry) → addedIndex buffer used e .no ≡ 0 → (x : Room buffer used e)
     → leftAdded buffer used e

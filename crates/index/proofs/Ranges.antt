@@ -50,15 +50,8 @@ fits-is before e t =
 pub is-fits : (before e : Entry) → Fits before e → fits before e ≡ true
 unfolding fits
 is-fits before e f =
-    rw (
-      lt-ltb _ _ (f .later),
-      le-leb _ _ (f .number),
-      le-leb _ _ (f .behind),
-      le-leb _ _ (f .least),
-      le-leb _ _ (f .longest),
-      le-leb _ _
-          (f .ends),
-    )
+    rw (lt-ltb _ _ (f .later), le-leb _ _ (f .number), le-leb _ _ (f .behind), le-leb _ _ (f .least), le-leb _ _ (f .longest))
+    (rw (le-leb _ _ (f .ends)))
 
 not-fits : (before e : Entry) → (Fits before e → ⊥) → fits before e ≡ false
 not-fits before e n = go (fits before e) refl

@@ -23,8 +23,7 @@ prefix-station = prefix-fixed 4 0 stationMost
 pub tight-gga : Tight ggaRow
 unfolding ggaRow
 tight-gga =
-    tight-made _ _ ggaParts (λ v. refl) (λ r. refl)
-    (tight-one lawful-time short-time ⊵ tight-one lawful-place short-place
+    tight-made _ _ ggaParts (λ v. refl) (λ r. refl) (tight-one lawful-time short-time ⊵ tight-one lawful-place short-place
     ⊵ tight-one (lawful-exact 1 0 8 (lit≤ tt) (lit≤ tt) (lit< tt)) (short-exact 1 0 8)
     ⊵ tight-one (lawful-fixed 2 0 99 (lit≤ tt) (lit≤ tt) (lit< tt)) (short-fixed 2 0 99) ⊵ tight-one lawful-number short-number
     ⊵ tight-metres ⊵ tight-metres ⊵ tight-one lawful-number short-number ⊵ tight-one lawful-station short-station)

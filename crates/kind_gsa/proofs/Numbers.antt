@@ -36,8 +36,7 @@ module _ (t : Talker) (r : Gsa) (full : length (r .satellites) ≡ 12) where
   pub gsa-parts : (gsaFirst t r ++ twelve r) ++ gsaLast r ≡ gsaNumbers t r
   unfolding gsaLayout standardNumbers
   gsa-parts =
-      ap (λ (l : List ℤ). gsaFirst t r ++ l)
-      (sym (list-onto lawful-maybe (r .satellites) (gsaLast r))
+      ap (λ (l : List ℤ). gsaFirst t r ++ l) (sym (list-onto lawful-maybe (r .satellites) (gsaLast r))
       ∙ ap (λ (vs : List Maybe). listNumbers maybeLayout vs (gsaLast r)) (sym (from-all noMaybe (r .satellites) 12 full)))
 
   pub twelve-long : length (twelve r) ≡ 24

@@ -131,9 +131,7 @@ module _ (field : ℕ → List ℕ) where
 
 entry-faults : (v : Entry) → entry .fault v ≡ entryRow .fault v 0 0
 entry-faults v =
-    let e = v .elevation in
-    let a = v .azimuth in
-    let s = v .signal in
+    let e = v .elevation in let a = v .azimuth in let s = v .signal in
     first-near _ _ _ _ (outside-most 1 99 (v .number)) (range-most 0 90 (e .there) (e .value)) (range-most 0 359 (a .there) (a .value))
     (range-most 0 99 (s .there) (s .value))
 
@@ -151,8 +149,7 @@ entry-like =
 
 tight-entry : Tight entryRow
 tight-entry =
-    tight-made _ _ fourRow (λ v. refl) (λ e. refl)
-    (tight-one (lawful-exact 2 1 99 (lit≤ tt) (lit≤ tt) (lit< tt)) (short-exact 2 1 99)
+    tight-made _ _ fourRow (λ v. refl) (λ e. refl) (tight-one (lawful-exact 2 1 99 (lit≤ tt) (lit≤ tt) (lit< tt)) (short-exact 2 1 99)
     ⊵ tight-one (lawful-fixed 2 0 90 (lit≤ tt) (lit≤ tt) (lit< tt)) (short-fixed 2 0 90)
     ⊵ tight-one (lawful-fixed 3 0 359 (lit≤ tt) (lit≤ tt) (lit< tt)) (short-fixed 3 0 359)
     ⊵ tight-one (lawful-fixed 2 0 99 (lit≤ tt) (lit≤ tt) (lit< tt)) (short-fixed 2 0 99))
@@ -162,17 +159,14 @@ lawful-entry = lawful-like entry-like (tight-entry .0)
 
 pub prefix-entry : PrefixForm entry
 prefix-entry =
-    prefix-like entry-like
-    (prefix-made _ _ fourRow (λ v. refl)
-    (prefix-one (prefix-exact 2 1 99 (lit≤ tt) (lit< tt) (lit≤ tt))
+    prefix-like entry-like (prefix-made _ _ fourRow (λ v. refl) (prefix-one (prefix-exact 2 1 99 (lit≤ tt) (lit< tt) (lit≤ tt))
     ⊩ prefix-one (prefix-fixed 2 0 90)
     ⊩ prefix-one (prefix-fixed 3 0 359)
     ⊩ prefix-one (prefix-fixed 2 0 99)))
 
 pub same-entry : SameForm entry
 same-entry =
-    same-like entry-like
-    (same-made _ _ fourRow (λ v. refl)
+    same-like entry-like (same-made _ _ fourRow (λ v. refl)
     ((keeps-one (lawful-exact 2 1 99 (lit≤ tt) (lit≤ tt) (lit< tt)) (same-exact 2 1 99)
     ⊜ keeps-one (lawful-fixed 2 0 90 (lit≤ tt) (lit≤ tt) (lit< tt)) (same-fixed 2 0 90)
     ⊜ keeps-one (lawful-fixed 3 0 359 (lit≤ tt) (lit≤ tt) (lit< tt)) (same-fixed 3 0 359)

@@ -36,6 +36,5 @@ unfolding gsvWrong firstWrong
 gsv-wrong r =
     ap (λ (x : ℕ). nearOf 0 (lineNumber .fault (r .lines))
     (nearOf 1 (lineNumber .fault (r .line)) (nearOf 2 (satelliteTotal .fault (r .satellites)) x)))
-    (entry-step (used r 0) 3 (entryOf r 0) _ _
-    (entry-step (used r 1) 7 (entryOf r 1) _ _
+    (entry-step (used r 0) 3 (entryOf r 0) _ _ (entry-step (used r 1) 7 (entryOf r 1) _ _
     (entry-step (used r 2) 11 (entryOf r 2) _ _ (sym (entry-last (used r 3) 15 (entryOf r 3))))))

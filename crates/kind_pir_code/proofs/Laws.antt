@@ -40,8 +40,7 @@ lawful-pirer = lawful-one lawful-zeroDigit
 pub lawful-pirea : Lawful pireaRow
 unfolding pireaRow
 lawful-pirea =
-    lawful-made _ _ pireaParts (λ v. refl) (λ r. refl)
-    (lawful-one lawful-code)
+    lawful-made _ _ pireaParts (λ v. refl) (λ r. refl) (lawful-one lawful-code)
 
 pub prefix-pirer : Prefix pirerRow
 unfolding pirerRow

@@ -38,5 +38,4 @@ prefix-pirtr =
 pub prefix-pirta : Prefix pirtaRow
 unfolding pirtaRow
 prefix-pirta =
-    prefix-made _ _ pirtaParts (λ v. refl)
-    (prefix-one (prefix-exact 1 0 4 (lit≤ tt) (lit< tt) (lit≤ tt)) ⊩ prefix-one prefix-filledZone)
+    prefix-made _ _ pirtaParts (λ v. refl) (prefix-one (prefix-exact 1 0 4 (lit≤ tt) (lit< tt) (lit≤ tt)) ⊩ prefix-one prefix-filledZone)

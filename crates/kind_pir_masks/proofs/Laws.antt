@@ -15,15 +15,13 @@ use Rattle.kind_pir_masks.specs.Reply.{pirsaParts, pirsaRow}
 pub lawful-pirsr : Lawful pirsrRow
 unfolding pirsrRow
 lawful-pirsr =
-    lawful-made _ _ pirsrParts (λ v. refl) (λ r. refl)
-    (lawful-one (lawful-satelliteMask 8 gpsMost (lit≤ tt) (lit≤ tt) refl)
+    lawful-made _ _ pirsrParts (λ v. refl) (λ r. refl) (lawful-one (lawful-satelliteMask 8 gpsMost (lit≤ tt) (lit≤ tt) refl)
     ⊳ lawful-one (lawful-satelliteMask 6 glonassMost (lit≤ tt) (lit≤ tt) refl) ⊳ lawful-one lawful-emptyField)
 
 pub lawful-pirsa : Lawful pirsaRow
 unfolding pirsaRow
 lawful-pirsa =
-    lawful-made _ _ pirsaParts (λ v. refl) (λ r. refl)
-    (lawful-one (lawful-wholeMask 8 gpsMost (lit≤ tt) (lit≤ tt) refl)
+    lawful-made _ _ pirsaParts (λ v. refl) (λ r. refl) (lawful-one (lawful-wholeMask 8 gpsMost (lit≤ tt) (lit≤ tt) refl)
     ⊳ lawful-one (lawful-wholeMask 6 glonassMost (lit≤ tt) (lit≤ tt) refl) ⊳ lawful-one lawful-emptyField)
 
 pub prefix-pirsr : Prefix pirsrRow

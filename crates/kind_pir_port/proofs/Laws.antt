@@ -31,17 +31,14 @@ lawful-setting key =
 pub lawful-pirpr : Lawful pirprRow
 unfolding pirprRow
 lawful-pirpr =
-    lawful-made _ _ pirprParts (λ v. refl) (λ r. refl)
-    (lawful-one (lawful-fixed 1 0 1 (lit≤ tt) (lit≤ tt) (lit< tt))
+    lawful-made _ _ pirprParts (λ v. refl) (λ r. refl) (lawful-one (lawful-fixed 1 0 1 (lit≤ tt) (lit≤ tt) (lit< tt))
     ⊳ lawful-depending 2 7 (maybeLayout then maybeLayout) (λ g. g .there) (λ m. m .there) (one rate) setting (λ k. refl) (λ k. lit≤ tt)
-    (λ g. refl)
-    (lawful-one lawful-rate) lawful-setting)
+    (λ g. refl) (lawful-one lawful-rate) lawful-setting)
 
 pub lawful-pirpa : Lawful pirpaRow
 unfolding pirpaRow
 lawful-pirpa =
-    lawful-made _ _ pirpaParts (λ v. refl) (λ r. refl)
-    (lawful-one (lawful-exact 1 0 1 (lit≤ tt) (lit≤ tt) (lit< tt))
+    lawful-made _ _ pirpaParts (λ v. refl) (λ r. refl) (lawful-one (lawful-exact 1 0 1 (lit≤ tt) (lit≤ tt) (lit< tt))
     ⊳ lawful-one (lawful-filled rate lawful-rate (λ g. refl) (λ g. refl))
     ⊳ lawful-one (lawful-exact 1 0 4 (lit≤ tt) (lit≤ tt) (lit< tt))
     ⊳ lawful-one (lawful-filled portMask lawful-portMask (λ g. refl) (λ g. refl)))
@@ -55,16 +52,14 @@ prefix-setting key =
 pub prefix-pirpr : Prefix pirprRow
 unfolding pirprRow
 prefix-pirpr =
-    prefix-made _ _ pirprParts (λ v. refl)
-    (prefix-one (prefix-fixed 1 0 1)
+    prefix-made _ _ pirprParts (λ v. refl) (prefix-one (prefix-fixed 1 0 1)
     ⊩ prefix-depending 2 7 (maybeLayout then maybeLayout) (λ g. g .there) (λ m. m .there) (one rate) setting (λ k. refl)
     (prefix-one prefix-rate) prefix-setting)
 
 pub prefix-pirpa : Prefix pirpaRow
 unfolding pirpaRow
 prefix-pirpa =
-    prefix-made _ _ pirpaParts (λ v. refl)
-    (prefix-one (prefix-exact 1 0 1 (lit≤ tt) (lit< tt) (lit≤ tt))
+    prefix-made _ _ pirpaParts (λ v. refl) (prefix-one (prefix-exact 1 0 1 (lit≤ tt) (lit< tt) (lit≤ tt))
     ⊩ prefix-one (prefix-filled rate refl prefix-rate (λ g. refl) told-rate)
     ⊩ prefix-one (prefix-exact 1 0 4 (lit≤ tt) (lit< tt) (lit≤ tt))
     ⊩ prefix-one (prefix-filled portMask refl prefix-portMask (λ g. refl) told-portMask))

@@ -14,8 +14,7 @@ use Rattle.kind_zda.specs.Row.{zdaParts, zdaRow}
 pub tight-zda : Tight zdaRow
 unfolding zdaRow
 tight-zda =
-    tight-made _ _ zdaParts (λ v. refl) (λ r. refl)
-    (tight-one lawful-time short-time ⊵ tight-one lawful-dayMonthYear short-dayMonthYear
+    tight-made _ _ zdaParts (λ v. refl) (λ r. refl) (tight-one lawful-time short-time ⊵ tight-one lawful-dayMonthYear short-dayMonthYear
     ⊵ tight-one lawful-hoursMinutes short-hoursMinutes)
 
 -- Some year has the day of the month that stand in the second and the third field.

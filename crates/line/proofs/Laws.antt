@@ -11,7 +11,8 @@ use lib.Seq.{drop-cons}
 use lib.Bits.{bitXor}
 use borrow.Author.Tests.{eq-eqb, ne-eqb, le-leb, leb-true, lt-leb}
 use Rattle.digits.proofs.Bools.{and-assoc, and-left, and-right, and-true}
-use Rattle.line.specs.Line.{bodyByte, bodyBytes, noneOf, xorFrom, xorOf, bodyOf, edgeForm, endOf, endForm, lineForm, endGives, lineRefusal}
+use Rattle.line.specs.Line.{bodyByte, bodyBytes, bodyOf, edgeForm, endForm, endGives, endOf, lineForm, lineRefusal, noneOf}
+use Rattle.line.specs.Line.{xorFrom, xorOf}
 use Rattle.line.specs.Ends.{endsFrom, endsIn}
 
 -- the ways out of the edges, in the code's order
@@ -66,16 +67,9 @@ unfolding bodyByte noneOf
 plain-stands b t =
     let l = leb-true 45 b (and-left _ _ t) in
     let h = leb-true b 91 (and-right (leb 45 b) _ t) in
-    rw (
-      le-leb 0x20 b (omega arith),
-      le-leb b 0x7E (omega arith),
-      ne-eqb b 36 (λ e. omega arith),
-      ne-eqb b 42 (λ e. omega arith),
-      ne-eqb b 33 (λ e. omega arith),
-      ne-eqb b 92 (λ e. omega arith),
-      ne-eqb b 94 (λ e. omega arith),
-      ne-eqb b 126 (λ e. omega arith),
-    )
+    rw (le-leb 0x20 b (omega arith), le-leb b 0x7E (omega arith), ne-eqb b 36 (λ e. omega arith), ne-eqb b 42 (λ e. omega arith))
+    (rw (ne-eqb b 33 (λ e. omega arith), ne-eqb b 92 (λ e. omega arith), ne-eqb b 94 (λ e. omega arith))
+    (rw (ne-eqb b 126 (λ e. omega arith))))
 
 pub plain-no-comma : (b : ℕ) → (leb 45 b && leb b 91) ≡ true → b ≡ 44 → ⊥
 plain-no-comma b t e = let l = leb-true 45 b (and-left _ _ t) in omega arith

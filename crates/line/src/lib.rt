@@ -42,7 +42,8 @@ struct Found {
 // that is not plain is written over the one before it until a comma comes.
 fn scan(s: &[u8], p: &mut [usize]) -> Found
     ensures { λ r. ⌜ (r .good ≡ bodyBytes (now (s .entry))) × (r .xor ≡ xorOf (now (s .entry))) ⌝ }
-    ensures { λ r. ⌜ (r .count ≡ length (endsFrom 0 (now (s .entry)))) × (now (p .exit) ≡ sets (now (p .entry)) 0 (endsFrom 0 (now (s .entry)))) ⌝ }
+    ensures { λ r. ⌜ (r .count ≡ length (endsFrom 0 (now (s .entry))))
+        × (now (p .exit) ≡ sets (now (p .entry)) 0 (endsFrom 0 (now (s .entry)))) ⌝ }
 {
     let mut good = true;
     let mut xor: u8 = 0;

@@ -64,8 +64,6 @@ pub passes-ending : (l : List ℕ) → lineRefusal l ≡ 0 → Ending l
 passes-ending l h =
     let p = accepted l h in
     let x = xorOf (bodyOf l) in
-    subst Ending (sym (p .1))
-    (on 36 _ (lit< tt)
-    (body-on (bodyOf l) _ (p .0 .good)
+    subst Ending (sym (p .1)) (on 36 _ (lit< tt) (body-on (bodyOf l) _ (p .0 .good)
     (on 42 _ (lit< tt) (on (hexOf (x / 16)) _ (hex-on (x / 16))
     (on (hexOf (x % 16)) _ (hex-on (x % 16)) (on 13 _ (lit< tt) (inl (refl, refl))))))))

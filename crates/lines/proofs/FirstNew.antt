@@ -113,8 +113,7 @@ apart (b ∷ s) l ls e =
 -- the edit of two first lines that are the same is one of what follows them
 rest-edit : {a b l m : List ℕ} {ls ms : List (List ℕ)} → Apart a l ls → Apart b m ms → l ≡ m → OneByte a b → OneByte (afterOf a) (afterOf b)
 rest-edit {a} {b} {l} {m} p q i d =
-    unjoin l
-    (subst (λ (v : List ℕ). OneByte (l ++ afterOf a) v) (q .whole ∙ ap (λ (r : List ℕ). r ++ afterOf b) (sym i))
+    unjoin l (subst (λ (v : List ℕ). OneByte (l ++ afterOf a) v) (q .whole ∙ ap (λ (r : List ℕ). r ++ afterOf b) (sym i))
     (subst (λ (u : List ℕ). OneByte u b) (p .whole) d))
 
 first-fails : {a b l m : List ℕ} {ls ms : List (List ℕ)} → Apart a l ls → Apart b m ms → OneByte a b → lineRefusal l ≡ 0 → (l ≡ m → ⊥)

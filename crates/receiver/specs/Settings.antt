@@ -32,8 +32,8 @@ atStart =
       code = 0;
     }
 
--- Port 0 is the first, port 1 the second. No other is asked for: an arrival port that is neither is refused with 5 before, and a command can
--- name no other.
+-- Port 0 is the first, port 1 the second. No other is asked for: an arrival port that is neither is refused with 5 before, and a command
+-- can name no other.
 abbrev pub portOf : Settings → ℕ → Port
 portOf s zero = s .first
 portOf s (suc n) = s .second

@@ -21,18 +21,15 @@ lawful-port =
 
 pub lawful-settings : LawfulLayout settingsLayout
 unfolding settingsLayout
-lawful-settings =
-    lawful-shaped
-    (λ v. record {
-      first = v .0;
-      second = v .1 .0;
-      datum = v .1 .1 .0;
-      zone = v .1 .1 .1 .0;
-      gps = v .1 .1 .1 .1 .0;
-      glonass = v .1 .1 .1 .1 .1 .0;
-      code = v .1 .1 .1 .1 .1 .1;
-    })
-    (λ s. (s .first, (s .second, (s .datum, (s .zone, (s .gps, (s .glonass, s .code)))))))
+lawful-settings = lawful-shaped (λ v. record {
+  first = v .0;
+  second = v .1 .0;
+  datum = v .1 .1 .0;
+  zone = v .1 .1 .1 .0;
+  gps = v .1 .1 .1 .1 .0;
+  glonass = v .1 .1 .1 .1 .1 .0;
+  code = v .1 .1 .1 .1 .1 .1;
+}) (λ s. (s .first, (s .second, (s .datum, (s .zone, (s .gps, (s .glonass, s .code)))))))
     (portLayout then portLayout then whole then signed then whole then whole then whole) (λ s. refl)
     (lawful-port ⊗ lawful-port ⊗ lawful-whole ⊗ lawful-signed ⊗ lawful-whole ⊗ lawful-whole ⊗ lawful-whole)
 

@@ -77,8 +77,6 @@ module _ (n : ℕ) (line : List ℕ) (s : Sentence) (out : List ℤ) (asked : Bo
   row-is =
       ap (λ (b : Bool). toldRow n line (toldOf (refusalOf s) b kind) (laidFor s out) asked) enough
       ∙ (told-row n line (laidFor s out) asked s
-      ∙ ap
-      (λ (x : List ℕ). decimalText n ++ (32 ∷ addressText (refusalOf s .no) line)
+      ∙ ap (λ (x : List ℕ). decimalText n ++ (32 ∷ addressText (refusalOf s .no) line)
       ++ (32 ∷ answerText (refusalOf s .no) (refusalOf s .field))
-      ++ x ++ (10 ∷ []))
-      (same-asked asked))
+      ++ x ++ (10 ∷ [])) (same-asked asked))

@@ -102,8 +102,7 @@ module _ (t : Talker) (v : Gsv) (n : ℕ) (field : ℕ → List ℕ) where
   standard-only u K.Gga = none-of (Standard u K.Gga) (alone ggaRow (S.Gga u) (λ r. refl))
   standard-only u K.Gll = none-of (Standard u K.Gll) (alone gllRow (S.Gll u) (λ r. refl))
   standard-only u K.Gsa =
-      none-of (Standard u K.Gsa)
-      (alone gsaRow (λ x. S.Gsa u (gsaMade x)) (λ r. refl))
+      none-of (Standard u K.Gsa) (alone gsaRow (λ x. S.Gsa u (gsaMade x)) (λ r. refl))
   standard-only u K.Gsv = λ e. ap (λ (x : Talker). Standard x K.Gsv) (same-talker u e)
   standard-only u K.Rmc = none-of (Standard u K.Rmc) (alone rmcRow (S.Rmc u) (λ r. refl))
   standard-only u K.Vtg = none-of (Standard u K.Vtg) (alone vtgRow (S.Vtg u) (λ r. refl))

@@ -49,8 +49,7 @@ module _ (out : List ℤ) where
         pick b (pick (leb 0 (length out)) (told 0 0 0) (told 8 0 0)) (told n 0 field),
         handed (S.Refused n field) out
             .1,
-      ))
-      (sym (ne-eqb n 0 h))
+      )) (sym (ne-eqb n 0 h))
 
   four : refuses out 4 0 ≡ handed (S.Refused 4 0) out
   four = refused-told 4 0 (λ z. omega (arith, z))

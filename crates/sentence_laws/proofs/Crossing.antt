@@ -41,39 +41,25 @@ refused-crosses n f h rest = absurd (h refl)
 module _ (n : ℕ) (field : ℕ → List ℕ) where
   standard-crosses : (t : Talker) (k : Kind) → Crosses (standardOf t k n field)
   unfolding Held
-  standard-crosses t K.Gga = N.gga .write-read t n field Crosses refused-crosses
-      (λ r c w u h rest. back (S.Gga t r) rest (gga-fits r w))
-  standard-crosses t K.Gll = N.gll .write-read t n field Crosses refused-crosses
-      (λ r c w u h rest. back (S.Gll t r) rest (gll-fits r w))
+  standard-crosses t K.Gga = N.gga .write-read t n field Crosses refused-crosses (λ r c w u h rest. back (S.Gga t r) rest (gga-fits r w))
+  standard-crosses t K.Gll = N.gll .write-read t n field Crosses refused-crosses (λ r c w u h rest. back (S.Gll t r) rest (gll-fits r w))
   standard-crosses t K.Gsa = TGsa.write-read t n field Crosses refused-crosses
       (λ r e c w u h rest. back (S.Gsa t r) rest (gsa-fits r e w))
-  standard-crosses t K.Gsv = TGsv.write-read t field Crosses refused-crosses
-      (λ r e g h rest. back (S.Gsv t r) rest (gsv-fits r e g)) n
-  standard-crosses t K.Rmc = N.rmc .write-read t n field Crosses refused-crosses
-      (λ r c w u h rest. back (S.Rmc t r) rest (rmc-fits r w))
-  standard-crosses t K.Vtg = N.vtg .write-read t n field Crosses refused-crosses
-      (λ r c w u h rest. back (S.Vtg t r) rest (vtg-fits r w))
-  standard-crosses t K.Zda = N.zda .write-read t n field Crosses refused-crosses
-      (λ r c w u h rest. back (S.Zda t r) rest (zda-fits r w))
+  standard-crosses t K.Gsv = TGsv.write-read t field Crosses refused-crosses (λ r e g h rest. back (S.Gsv t r) rest (gsv-fits r e g)) n
+  standard-crosses t K.Rmc = N.rmc .write-read t n field Crosses refused-crosses (λ r c w u h rest. back (S.Rmc t r) rest (rmc-fits r w))
+  standard-crosses t K.Vtg = N.vtg .write-read t n field Crosses refused-crosses (λ r c w u h rest. back (S.Vtg t r) rest (vtg-fits r w))
+  standard-crosses t K.Zda = N.zda .write-read t n field Crosses refused-crosses (λ r c w u h rest. back (S.Zda t r) rest (zda-fits r w))
 
   maker-crosses : (k : Pir) → Crosses (makerOf k n field)
   unfolding Held
-  maker-crosses P.Pr = C.pirpr .write-read n field Crosses refused-crosses
-      (λ r c w h rest. back (S.Pr r) rest (pirpr-fits r w))
-  maker-crosses P.Tr = C.pirtr .write-read n field Crosses refused-crosses
-      (λ r c w h rest. back (S.Tr r) rest (pirtr-fits r w))
-  maker-crosses P.Sr = C.pirsr .write-read n field Crosses refused-crosses
-      (λ r c w h rest. back (S.Sr r) rest (pirsr-fits r w))
-  maker-crosses P.Er = C.pirer .write-read n field Crosses refused-crosses
-      (λ v c w h rest. back S.Er rest tt)
-  maker-crosses P.Pa = C.pirpa .write-read n field Crosses refused-crosses
-      (λ r c w h rest. back (S.Pa r) rest (pirpa-fits r w))
-  maker-crosses P.Ta = C.pirta .write-read n field Crosses refused-crosses
-      (λ r c w h rest. back (S.Ta r) rest (pirta-fits r w))
-  maker-crosses P.Sa = C.pirsa .write-read n field Crosses refused-crosses
-      (λ r c w h rest. back (S.Sa r) rest (pirsa-fits r w))
-  maker-crosses P.Ea = C.pirea .write-read n field Crosses refused-crosses
-      (λ r c w h rest. back (S.Ea r) rest (pirea-fits r w))
+  maker-crosses P.Pr = C.pirpr .write-read n field Crosses refused-crosses (λ r c w h rest. back (S.Pr r) rest (pirpr-fits r w))
+  maker-crosses P.Tr = C.pirtr .write-read n field Crosses refused-crosses (λ r c w h rest. back (S.Tr r) rest (pirtr-fits r w))
+  maker-crosses P.Sr = C.pirsr .write-read n field Crosses refused-crosses (λ r c w h rest. back (S.Sr r) rest (pirsr-fits r w))
+  maker-crosses P.Er = C.pirer .write-read n field Crosses refused-crosses (λ v c w h rest. back S.Er rest tt)
+  maker-crosses P.Pa = C.pirpa .write-read n field Crosses refused-crosses (λ r c w h rest. back (S.Pa r) rest (pirpa-fits r w))
+  maker-crosses P.Ta = C.pirta .write-read n field Crosses refused-crosses (λ r c w h rest. back (S.Ta r) rest (pirta-fits r w))
+  maker-crosses P.Sa = C.pirsa .write-read n field Crosses refused-crosses (λ r c w h rest. back (S.Sa r) rest (pirsa-fits r w))
+  maker-crosses P.Ea = C.pirea .write-read n field Crosses refused-crosses (λ r c w h rest. back (S.Ea r) rest (pirea-fits r w))
 
   addressed-crosses : (a : Address) → Crosses (addressed a n field)
   addressed-crosses (Standard t k) = standard-crosses t k

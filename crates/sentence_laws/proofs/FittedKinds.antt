@@ -142,23 +142,20 @@ gll-fits r e = (place-fits ⊕ time-fits ⊕ letter-fits statuses clean-status �
 
 pub rmc-fits : (r : Rmc) → rmcWrong r ≡ 0 → rmcLayout .held r ≡ true
 unfolding faultBy rmcRow rmcLayout
-rmc-fits r e =
-    (time-fits ⊕ letter-fits statuses clean-status ⊕ place-fits ⊕ knots-fits ⊕ course-fits ⊕ fitted-one ddmmyy six-held
+rmc-fits r e = (time-fits ⊕ letter-fits statuses clean-status ⊕ place-fits ⊕ knots-fits ⊕ course-fits ⊕ fitted-one ddmmyy six-held
     ⊕ fitted-one variation (λ z. signed-held (halfCircle - 1) (z .there) (z .value) (lit< tt)) ⊕ letter-fits modes clean-mode)
     .fits _ 0 0 e .0
 
 pub vtg-fits : (r : Vtg) → vtgWrong r ≡ 0 → vtgLayout .held r ≡ true
 unfolding faultBy vtgRow vtgLayout
-vtg-fits r e =
-    (fitted-measured (unit "T") (λ g. g .there) (λ n. n .there) (one course) course-fits
+vtg-fits r e = (fitted-measured (unit "T") (λ g. g .there) (λ n. n .there) (one course) course-fits
     ⊕ fitted-measured (unit "M") (λ g. g .there) (λ n. n .there) (one course) course-fits
     ⊕ fitted-measured (unit "N") (λ g. g .there) (λ n. n .there) (one knots) knots-fits
     ⊕ fitted-measured (unit "K") (λ g. g .there) (λ n. n .there) (one kmh) kmh-fits ⊕ letter-fits modes clean-mode) .fits _ 0 0 e .0
 
 pub zda-fits : (r : Zda) → zdaWrong r ≡ 0 → zdaLayout .held r ≡ true
 unfolding faultBy zdaRow zdaLayout
-zda-fits r e =
-    (time-fits ⊕ fitted-one dayMonthYear three-held
+zda-fits r e = (time-fits ⊕ fitted-one dayMonthYear three-held
     ⊕ fitted-one hoursMinutes (λ z. signed-held zoneMost (z .there) (z .minutes) (lit< tt))) .fits _ 0 0 e .0
 
 needed-fits : (f : Form Got Maybe) → ((m : Maybe) → f .fault m ≡ 0 → f .layout .held m ≡ true) → (key : Bool)
@@ -167,8 +164,7 @@ needed-fits f h key = fitted-one (needed f key) (λ m e. h m (alike-parts key (m
 
 pub pirpr-fits : (r : PortAsked) → pirprWrong r ≡ 0 → pirprLayout .held r ≡ true
 unfolding faultBy pirprRow pirprLayout
-pirpr-fits r e =
-    (fixed-fits 1 0 portMost (lit≤ tt)
+pirpr-fits r e = (fixed-fits 1 0 portMost (lit≤ tt)
     ⊕ fitted-depending 2 7 (maybeLayout then maybeLayout) (λ g. g .there) (λ m. m .there) (one rate) setting (λ k v. refl)
     (fitted-one rate (λ m. range-held rateLeast rateMost (m .there) (m .value) (lit≤ tt)))
     (λ key. needed-fits (fixed 1 0 protocolMost) (λ m. range-held 0 protocolMost (m .there) (m .value) (lit≤ tt)) key
@@ -178,8 +174,7 @@ pub pirtr-fits : (r : DatumAsked) → pirtrWrong r ≡ 0 → pirtrLayout .held r
 unfolding faultBy pirtrRow pirtrLayout
 pirtr-fits r e =
     fitted-depending 1 6 zoneLayout (λ g. g .there) (λ m. m .there) (one (fixed 1 0 datumMost)) zone (λ k v. refl)
-    (fixed-fits 1 0 datumMost (lit≤ tt))
-    (λ key. fitted-one (hhmm key)
+    (fixed-fits 1 0 datumMost (lit≤ tt)) (λ key. fitted-one (hhmm key)
     (λ z i. signed-held zoneMost (z .there) (z .minutes) (lit< tt) (alike-parts key (z .there) _ i .1)))
     .fits _ 0 0 e .0
 
@@ -189,8 +184,7 @@ pirsr-fits r e = (mask-fits 8 gpsMost (lit≤ tt) ⊕ mask-fits 6 glonassMost (l
 
 pub pirpa-fits : (r : PortTold) → pirpaWrong r ≡ 0 → pirpaLayout .held r ≡ true
 unfolding faultBy pirpaRow pirpaLayout
-pirpa-fits r e =
-    (exact-fits 1 0 portMost (lit≤ tt) ⊕ fitted-one (filled rate) (λ v. range-held rateLeast rateMost true v (lit≤ tt))
+pirpa-fits r e = (exact-fits 1 0 portMost (lit≤ tt) ⊕ fitted-one (filled rate) (λ v. range-held rateLeast rateMost true v (lit≤ tt))
     ⊕ exact-fits 1 0 protocolMost (lit≤ tt) ⊕ fitted-one (filled portMask) (λ v. port-held true v)) .fits _ 0 0 e .0
 
 pub pirta-fits : (r : DatumTold) → pirtaWrong r ≡ 0 → pirtaLayout .held r ≡ true

@@ -141,8 +141,7 @@ gsv-five t n field w e = go (ltb 4 (entriesOf n)) refl
     go false q =
         let count = entriesOf n in
         let few = ltb-false 4 (entriesOf n) q in
-        five-of S.Refused (gsvRow count) (gsvIs t count) refusalOf (λ no at. refl) (λ r. refl)
-        (Sat.gsv t count)
+        five-of S.Refused (gsvRow count) (gsvIs t count) refusalOf (λ no at. refl) (λ r. refl) (Sat.gsv t count)
         (Standard t K.Gsv) n (λ f. ap refusalOf (gsv-row t n f few)) (λ f u. tt) field w e
 
 standard-five : (t : Talker) (k : Kind) (n : ℕ) (field : ℕ → List ℕ) (w : ℕ) → toldOf (Standard t k) n field ≡ refusal 5 w

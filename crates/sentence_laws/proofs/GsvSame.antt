@@ -70,8 +70,7 @@ module _ (l : List ℕ) (t : Talker) (v : Gsv) (e : readLine l ≡ S.Gsv t v) wh
 pub gsv-good : (l : List ℕ) (t : Talker) (v : Gsv) → readLine l ≡ S.Gsv t v → (length (v .entries) ≡ 4) × Good v
 gsv-good l t v e =
     subst Held (sym (reads l t v e))
-    (write-read t (fields l) Held (λ no at. no-gsv no at t v) (λ r places good q. same r places good (cc)) (number l))
-    e
+    (write-read t (fields l) Held (λ no at. no-gsv no at t v) (λ r places good q. same r places good (cc)) (number l)) e
   where
     Held : Sentence → Type 0
     Held r = r ≡ S.Gsv t v → (length (v .entries) ≡ 4) × Good v

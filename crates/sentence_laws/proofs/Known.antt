@@ -51,12 +51,8 @@ talker-known Gn = refl
 
 known-standard : (t : Talker) (kind : List ℕ) (k : Kind) → kindOf kind ≡ some k → knownOf (talkerText t ++ kind) ≡ Standard t k
 unfolding knownOf
-known-standard t kind k e = rw (
-  take-at (talkerText t) kind 2 (talker-two t),
-  talker-known t,
-  drop-at (talkerText t) kind 2 (talker-two t),
-  e,
-)
+known-standard t kind k e = rw (take-at (talkerText t) kind 2 (talker-two t), talker-known t)
+    (rw (drop-at (talkerText t) kind 2 (talker-two t), e))
 
 pub known-gga : (t : Talker) → knownOf (talkerText t ++ ascii "GGA") ≡ Standard t K.Gga
 unfolding lookUp same

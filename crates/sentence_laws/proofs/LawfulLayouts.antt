@@ -50,155 +50,113 @@ lawful-measured {a = a} f = lawful-shaped (λ v. v .0) (λ v. (v, tt)) (a then n
 
 pub lawful-gga : LawfulLayout ggaLayout
 unfolding ggaLayout ggaRow
-lawful-gga =
-    lawful-shaped
-    (λ v. record {
-      time = v .0;
-      place = v .1 .0;
-      quality = v .1 .1 .0;
-      satellites = v .1 .1 .1 .0;
-      hdop = v .1 .1 .1 .1 .0;
-      altitude = v .1 .1 .1 .1 .1 .0;
-      geoid = v .1 .1 .1 .1 .1 .1 .0;
-      age = v .1 .1 .1 .1 .1 .1 .1 .0;
-      station = v .1 .1 .1 .1 .1 .1 .1 .1;
-    })
+lawful-gga = lawful-shaped (λ v. record {
+  time = v .0;
+  place = v .1 .0;
+  quality = v .1 .1 .0;
+  satellites = v .1 .1 .1 .0;
+  hdop = v .1 .1 .1 .1 .0;
+  altitude = v .1 .1 .1 .1 .1 .0;
+  geoid = v .1 .1 .1 .1 .1 .1 .0;
+  age = v .1 .1 .1 .1 .1 .1 .1 .0;
+  station = v .1 .1 .1 .1 .1 .1 .1 .1;
+})
     (λ r. (r .time, (r .place, (r .quality, (r .satellites, (r .hdop, (r .altitude, (r .geoid, (r .age, r .station))))))))) _ (λ r. refl)
     (lawful-maybe ⊗ lawful-place ⊗ lawful-whole ⊗ lawful-maybe ⊗ lawful-number ⊗ lawful-measured lawful-signs ⊗ lawful-measured lawful-signs
     ⊗ lawful-number ⊗ lawful-maybe)
 
 pub lawful-gll : LawfulLayout gllLayout
 unfolding gllLayout gllRow
-lawful-gll =
-    lawful-shaped
-    (λ v. record { place = v .0; time = v .1 .0; status = v .1 .1 .0; mode = v .1 .1 .1 })
-    (λ r. (r .place, (r .time, (r .status, r .mode)))) _ (λ r. refl)
-    (lawful-place ⊗ lawful-maybe ⊗ lawful-whole ⊗ lawful-whole)
+lawful-gll = lawful-shaped (λ v. record { place = v .0; time = v .1 .0; status = v .1 .1 .0; mode = v .1 .1 .1 })
+    (λ r. (r .place, (r .time, (r .status, r .mode)))) _ (λ r. refl) (lawful-place ⊗ lawful-maybe ⊗ lawful-whole ⊗ lawful-whole)
 
 pub lawful-gsa : LawfulLayout gsaLayout
 unfolding gsaLayout
-lawful-gsa =
-    lawful-shaped
-    (λ v. record {
-      selection = v .0;
-      fix = v .1 .0;
-      satellites = v .1 .1 .0;
-      pdop = v .1 .1 .1 .0;
-      hdop = v .1 .1 .1 .1 .0;
-      vdop = v .1 .1 .1 .1 .1;
-    })
-    (λ r. (r .selection, (r .fix, (r .satellites, (r .pdop, (r .hdop, r .vdop)))))) _ (λ r. refl)
+lawful-gsa = lawful-shaped (λ v. record {
+  selection = v .0;
+  fix = v .1 .0;
+  satellites = v .1 .1 .0;
+  pdop = v .1 .1 .1 .0;
+  hdop = v .1 .1 .1 .1 .0;
+  vdop = v .1 .1 .1 .1 .1;
+}) (λ r. (r .selection, (r .fix, (r .satellites, (r .pdop, (r .hdop, r .vdop)))))) _ (λ r. refl)
     (lawful-whole ⊗ lawful-whole ⊗ lawful-several 12 noMaybe lawful-maybe ⊗ lawful-number ⊗ lawful-number ⊗ lawful-number)
 
 pub lawful-gsv : LawfulLayout gsvLayout
 unfolding gsvLayout
-lawful-gsv =
-    lawful-shaped
-    (λ v. record {
-      lines = v .0;
-      line = v .1 .0;
-      satellites = v .1 .1 .0;
-      count = v .1 .1 .1 .0;
-      entries = v .1 .1 .1 .1;
-    })
-    (λ r. (r .lines, (r .line, (r .satellites, (r .count, r .entries))))) _ (λ r. refl)
+lawful-gsv = lawful-shaped (λ v. record {
+  lines = v .0;
+  line = v .1 .0;
+  satellites = v .1 .1 .0;
+  count = v .1 .1 .1 .0;
+  entries = v .1 .1 .1 .1;
+}) (λ r. (r .lines, (r .line, (r .satellites, (r .count, r .entries))))) _ (λ r. refl)
     (lawful-whole ⊗ lawful-whole ⊗ lawful-whole ⊗ lawful-whole ⊗ lawful-several 4 blankEntry lawful-entry)
 
 pub lawful-rmc : LawfulLayout rmcLayout
 unfolding rmcLayout rmcRow
-lawful-rmc =
-    lawful-shaped
-    (λ v. record {
-      time = v .0;
-      status = v .1 .0;
-      place = v .1 .1 .0;
-      speed = v .1 .1 .1 .0;
-      course = v .1 .1 .1 .1 .0;
-      date = v .1 .1 .1 .1 .1 .0;
-      variation = v .1 .1 .1 .1 .1 .1 .0;
-      mode = v .1 .1 .1 .1 .1 .1 .1;
-    })
-    (λ r. (r .time, (r .status, (r .place, (r .speed, (r .course, (r .date, (r .variation, r .mode)))))))) _ (λ r. refl)
+lawful-rmc = lawful-shaped (λ v. record {
+  time = v .0;
+  status = v .1 .0;
+  place = v .1 .1 .0;
+  speed = v .1 .1 .1 .0;
+  course = v .1 .1 .1 .1 .0;
+  date = v .1 .1 .1 .1 .1 .0;
+  variation = v .1 .1 .1 .1 .1 .1 .0;
+  mode = v .1 .1 .1 .1 .1 .1 .1;
+}) (λ r. (r .time, (r .status, (r .place, (r .speed, (r .course, (r .date, (r .variation, r .mode)))))))) _ (λ r. refl)
     (lawful-maybe ⊗ lawful-whole ⊗ lawful-place ⊗ lawful-knots ⊗ lawful-number ⊗ lawful-date ⊗ lawful-signs ⊗ lawful-whole)
 
 pub lawful-vtg : LawfulLayout vtgLayout
 unfolding vtgLayout vtgRow
-lawful-vtg =
-    lawful-shaped
-    (λ v. record {
-      course = v .0;
-      magnetic = v .1 .0;
-      knots = v .1 .1 .0;
-      kmh = v .1 .1 .1 .0;
-      mode = v .1 .1 .1 .1;
-    })
-    (λ r. (r .course, (r .magnetic, (r .knots, (r .kmh, r .mode))))) _ (λ r. refl)
+lawful-vtg = lawful-shaped (λ v. record {
+  course = v .0;
+  magnetic = v .1 .0;
+  knots = v .1 .1 .0;
+  kmh = v .1 .1 .1 .0;
+  mode = v .1 .1 .1 .1;
+}) (λ r. (r .course, (r .magnetic, (r .knots, (r .kmh, r .mode))))) _ (λ r. refl)
     (lawful-measured lawful-number ⊗ lawful-measured lawful-number ⊗ lawful-measured lawful-knots ⊗ lawful-measured lawful-kmh
     ⊗ lawful-whole)
 
 pub lawful-zda : LawfulLayout zdaLayout
 unfolding zdaLayout zdaRow
-lawful-zda =
-    lawful-shaped
-    (λ v. record { time = v .0; date = v .1 .0; zone = v .1 .1 })
-    (λ r. (r .time, (r .date, r .zone))) _ (λ r. refl)
-    (lawful-maybe ⊗ lawful-date ⊗ lawful-zone)
+lawful-zda = lawful-shaped (λ v. record { time = v .0; date = v .1 .0; zone = v .1 .1 })
+    (λ r. (r .time, (r .date, r .zone))) _ (λ r. refl) (lawful-maybe ⊗ lawful-date ⊗ lawful-zone)
 
 pub lawful-pirpr : LawfulLayout pirprLayout
 unfolding pirprLayout pirprRow
-lawful-pirpr =
-    lawful-shaped
-    (λ v. record { port = v .0; rate = v .1 .0; protocol = v .1 .1 .0; mask = v .1 .1 .1 })
-    (λ r. (r .port, (r .rate, (r .protocol, r .mask)))) _ (λ r. refl)
-    (lawful-maybe ⊗ lawful-maybe ⊗ lawful-maybe ⊗ lawful-maybe)
+lawful-pirpr = lawful-shaped (λ v. record { port = v .0; rate = v .1 .0; protocol = v .1 .1 .0; mask = v .1 .1 .1 })
+    (λ r. (r .port, (r .rate, (r .protocol, r .mask)))) _ (λ r. refl) (lawful-maybe ⊗ lawful-maybe ⊗ lawful-maybe ⊗ lawful-maybe)
 
 pub lawful-pirtr : LawfulLayout pirtrLayout
 unfolding pirtrLayout pirtrRow
-lawful-pirtr =
-    lawful-shaped
-    (λ v. record { datum = v .0; zone = v .1 })
-    (λ r. (r .datum, r .zone)) _ (λ r. refl)
+lawful-pirtr = lawful-shaped (λ v. record { datum = v .0; zone = v .1 }) (λ r. (r .datum, r .zone)) _ (λ r. refl)
     (lawful-maybe ⊗ lawful-zone)
 
 pub lawful-pirsr : LawfulLayout pirsrLayout
 unfolding pirsrLayout pirsrRow
-lawful-pirsr =
-    lawful-shaped
-    (λ v. record { gps = v .0; glonass = v .1 .0 })
-    (λ r. (r .gps, (r .glonass, tt))) _ (λ r. refl)
+lawful-pirsr = lawful-shaped (λ v. record { gps = v .0; glonass = v .1 .0 }) (λ r. (r .gps, (r .glonass, tt))) _ (λ r. refl)
     (lawful-maybe ⊗ lawful-maybe ⊗ lawful-nothing)
 
 pub lawful-pirpa : LawfulLayout pirpaLayout
 unfolding pirpaLayout pirpaRow
-lawful-pirpa =
-    lawful-shaped
-    (λ v. record { port = v .0; rate = v .1 .0; protocol = v .1 .1 .0; mask = v .1 .1 .1 })
-    (λ r. (r .port, (r .rate, (r .protocol, r .mask)))) _ (λ r. refl)
-    (lawful-whole ⊗ lawful-whole ⊗ lawful-whole ⊗ lawful-whole)
+lawful-pirpa = lawful-shaped (λ v. record { port = v .0; rate = v .1 .0; protocol = v .1 .1 .0; mask = v .1 .1 .1 })
+    (λ r. (r .port, (r .rate, (r .protocol, r .mask)))) _ (λ r. refl) (lawful-whole ⊗ lawful-whole ⊗ lawful-whole ⊗ lawful-whole)
 
 pub lawful-pirta : LawfulLayout pirtaLayout
 unfolding pirtaLayout pirtaRow
-lawful-pirta =
-    lawful-shaped
-    (λ v. record { datum = v .0; zone = v .1 })
-    (λ r. (r .datum, r .zone)) _ (λ r. refl)
+lawful-pirta = lawful-shaped (λ v. record { datum = v .0; zone = v .1 }) (λ r. (r .datum, r .zone)) _ (λ r. refl)
     (lawful-whole ⊗ lawful-signed)
 
 pub lawful-pirsa : LawfulLayout pirsaLayout
 unfolding pirsaLayout pirsaRow
-lawful-pirsa =
-    lawful-shaped
-    (λ v. record { gps = v .0; glonass = v .1 .0 })
-    (λ r. (r .gps, (r .glonass, tt))) _ (λ r. refl)
+lawful-pirsa = lawful-shaped (λ v. record { gps = v .0; glonass = v .1 .0 }) (λ r. (r .gps, (r .glonass, tt))) _ (λ r. refl)
     (lawful-whole ⊗ lawful-whole ⊗ lawful-nothing)
 
 pub lawful-pirea : LawfulLayout pireaLayout
 unfolding pireaLayout pireaRow
-lawful-pirea =
-    lawful-shaped
-    (λ v. record { code = v })
-    (λ r. r .code) _ (λ r. refl)
-    (lawful-whole)
+lawful-pirea = lawful-shaped (λ v. record { code = v }) (λ r. r .code) _ (λ r. refl) (lawful-whole)
 
 -- Of a talker's sentence: its numbers are as many as its kind has, the first says the talker, and the record comes back.
 module _ {R : Type 0} {a : Layout R} (f : LawfulLayout a) (t : Talker) (r : R) (rest : List ℤ) where

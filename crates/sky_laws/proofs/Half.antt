@@ -81,8 +81,7 @@ five-in-range : (k : ℕ) → 1 ≤ k → k ≤ 99 → repeats [] (five k) ≡ f
 five-in-range k a b o =
     record {
       few = lit≤ tt;
-      each = good-append (plains 1 4) (plain k ∷ []) (plains-in-range 4 (lit≤ tt) .each)
-          (plain-good k a b, tt);
+      each = good-append (plains 1 4) (plain k ∷ []) (plains-in-range 4 (lit≤ tt) .each) (plain-good k a b, tt);
       once = o;
     }
 

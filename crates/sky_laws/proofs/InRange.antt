@@ -179,10 +179,6 @@ module _ (es : List Entry) (s : InRange es) where
   pub table-good : tableFault (tableOf es) .no ≡ 0
   unfolding tableFault
   table-good =
-      rw (
-        le-ltb 36 (length es) (s .few),
-        take-at es (replicate (36 - length es) blankEntry) (length es) refl,
-        drop-at es (replicate (36 - length es) blankEntry) (length es) refl,
-        none-entries 0 [] es (s .each) (s .once),
-        all-blank (36 - length es),
-      )
+      rw (le-ltb 36 (length es) (s .few), take-at es (replicate (36 - length es) blankEntry) (length es) refl)
+      (rw (drop-at es (replicate (36 - length es) blankEntry) (length es) refl, none-entries 0 [] es (s .each) (s .once))
+      (rw (all-blank (36 - length es))))

@@ -89,8 +89,7 @@ module _ (lines line satellites : ℕ) where
     of-good (e0 ∷ e1 ∷ []) g = record { few = lit≤ tt; values = zero-all _ (a, (b, (c, all-in 3 (e0 ∷ e1 ∷ []) g))); blank = refl }
     of-good (e0 ∷ e1 ∷ e2 ∷ []) g = record {
       few = lit≤ tt;
-      values = zero-all _
-          (a, (b, (c, all-in 3 (e0 ∷ e1 ∷ e2 ∷ []) g)));
+      values = zero-all _ (a, (b, (c, all-in 3 (e0 ∷ e1 ∷ e2 ∷ []) g)));
       blank = refl;
     }
     of-good (e0 ∷ e1 ∷ e2 ∷ e3 ∷ es) g =
@@ -129,8 +128,7 @@ module _ (v : Gsv) (places : length (v .entries) ≡ 4) (g : Good v) where
   entries-of : EachGood (usedOf v) × (v .entries ≡ filled 4 (usedOf v))
   entries-of =
       subst Told (all-four blankEntry (v .entries) places)
-      (good-of (v .lines) (v .line) (v .satellites) (entryOf v 0) (entryOf v 1) (entryOf v 2) (entryOf v 3) (v .count))
-      g
+      (good-of (v .lines) (v .line) (v .satellites) (entryOf v 0) (entryOf v 1) (entryOf v 2) (entryOf v 3) (v .count)) g
 
   pub used-good : EachGood (usedOf v)
   used-good = entries-of .0
@@ -173,8 +171,6 @@ module _ (es : List Entry) (few : length es ≤ 36) (k : ℕ) (from : 1 ≤ k) (
   line-good g =
       let n = nine-lines (length es) few in
       subst (λ (n : ℕ). Good (holding (linesFor (length es)) k (length es) n (filled 4 from-k))) (sym (next-four es k))
-      (of-good (linesFor (length es)) k (length es)
-      (in-outside 1 9 (linesFor (length es)) (some-line (length es)) n)
-      (in-outside 1 9 k from (omega (arith, n)))
-      (in-outside 0 99 (length es) (omega arith) (omega arith))
+      (of-good (linesFor (length es)) k (length es) (in-outside 1 9 (linesFor (length es)) (some-line (length es)) n)
+      (in-outside 1 9 k from (omega (arith, n))) (in-outside 0 99 (length es) (omega arith) (omega arith))
       from-k (good-drop (4 * (k - 1)) es g))

@@ -179,9 +179,6 @@ module _ (t : Talker) (es : List Entry) (l : List ℕ) (ls : List (List ℕ)) wh
       let f = and-right (sameTalker u (x .talker)) _ (x .right) in
       let g = and-right (eqb (linesFor n) (v .lines)) _ f in
       let w = sym (talkers-same u (x .talker) (and-left _ _ (x .right))) in
-      made u v n k before (x .reads ∙ ap (λ (y : Talker). S.Gsv y v) w)
-      (sym (eqb-true (linesFor n) (v .lines) (and-left _ _ f)))
-      (sym (eqb-true n (v .satellites) (and-left _ _ g)))
-      (and-right (eqb n (v .satellites)) _ g)
-      (x .fresh)
+      made u v n k before (x .reads ∙ ap (λ (y : Talker). S.Gsv y v) w) (sym (eqb-true (linesFor n) (v .lines) (and-left _ _ f)))
+      (sym (eqb-true n (v .satellites) (and-left _ _ g))) (and-right (eqb n (v .satellites)) _ g) (x .fresh)
       (subst (λ (y : Talker). answerFrom (said y v (before ++ usedOf v)) (k + 1) ls ≡ whole t es) w (x .rest))

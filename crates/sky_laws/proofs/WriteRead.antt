@@ -98,11 +98,8 @@ module _ (t : Talker) (n k : ℕ) (before : List Entry) (h : Held n k before) (l
     line-same =
         line-is es (e .in-range .few) k (h .from) (subst (λ (m : ℕ). k ≤ linesFor m) (sym (e .many)) (line .no-later))
         ∙ same-record v (linesFor (length es)) k (length es) (entriesAt (length es) k) (filled 4 (drop (4 * (k - 1)) es))
-        (line .lines ∙ ap linesFor (sym (e .many)))
-        (line .line)
-        (line .satellites ∙ sym (e .many))
-        (line .count ∙ ap (λ (m : ℕ). entriesAt m k) (sym (e .many)))
-        places
+        (line .lines ∙ ap linesFor (sym (e .many))) (line .line) (line .satellites ∙ sym (e .many))
+        (line .count ∙ ap (λ (m : ℕ). entriesAt m k) (sym (e .many))) places
 
     ends-with : Ends t es n k before (l ∷ ls)
     ends-with =
@@ -158,8 +155,7 @@ held-none t n l line =
     let nine = at-most-nine (line .gsv) (g .0) (g .1) in
     record {
       from = lit≤ tt;
-      few = few-satellites n
-          (subst (λ (m : ℕ). m ≤ 9) (line .lines) nine);
+      few = few-satellites n (subst (λ (m : ℕ). m ≤ 9) (line .lines) nine);
       many = omega arith;
       each = tt;
       once = refl;
@@ -173,9 +169,7 @@ module _ (t : Talker) (es : List Entry) where
   all-lines [] e = absurd (no-whole 6 1 0 t es e)
   all-lines (l ∷ ls) e =
       let x = first-line t es l ls e in
-      let u = x .0 in
-      let n = x .1 in
-      let line = x .2 .taken in
+      let u = x .0 in let n = x .1 in let line = x .2 .taken in
       let h = held-none u n l line in
       let y = walk t es u n ls 2 (usedOf (line .gsv)) (held-next u n 1 [] h l line) (x .2 .rest) in
       let z = ends-with u n 1 [] h l line es ls (y .1) in

@@ -34,8 +34,7 @@ module _ (n : List ℤ) where
           place = omega (arith, h);
           full = length-set entries i e ∙ t .full;
           text =
-              rw (add-one i)
-              (take-suc-set entries i e (omega (arith, h, t .full))
+              rw (add-one i) (take-suc-set entries i e (omega (arith, h, t .full))
               ∙ ap (λ (l : List Entry). l ++ (e ∷ [])) (t .text)
               ∙ ap (λ (x : Entry). listAt entryLayout n 2 i ++ (x ∷ [])) q
               ∙ sym (at-snoc n 2 i));

@@ -159,16 +159,14 @@ module _ (s : List ℕ) (entries : List Entry) (seen : List ℕ) (head : Head) (
         no = 0;
         line = 0;
         field = 0;
-        talker = Of
-            (head .talker);
+        talker = Of (head .talker);
         table = record { count = n; entries = entries };
       }) all
       ∙ ap (λ (l : List Entry). record {
         no = 0;
         line = 0;
         field = 0;
-        talker = Of
-            (head .talker);
+        talker = Of (head .talker);
         table = record { count = length (g .es); entries = l };
       }) (g .places)
 

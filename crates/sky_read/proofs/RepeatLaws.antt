@@ -57,8 +57,7 @@ module _ (v : Gsv) (four : length (v .entries) ≡ 4) (few : v .count ≤ 4) whe
     tests (suc zero) h a b d e = refl
     tests (suc (suc zero)) h a b d e = refl
     tests (suc (suc (suc zero))) h a b d e = refl
-    tests (suc (suc (suc (suc zero)))) h a b d e = ap
-        (λ (x : Bool). numbered (a .number) es ||
+    tests (suc (suc (suc (suc zero)))) h a b d e = ap (λ (x : Bool). numbered (a .number) es ||
         (numbered (b .number) (es ++ (a ∷ [])) || (numbered (d .number) (es ++ (a ∷ []) ++ (b ∷ [])) || x)))
         (sym (or-none (numbered (e .number) (es ++ (a ∷ []) ++ (b ∷ []) ++ (d ∷ [])))))
     tests (suc (suc (suc (suc (suc c))))) h a b d e = let z : ⊥ = omega arith in absurd z
@@ -109,8 +108,7 @@ module _ (v : Gsv) (sound : Sound v) where
       let one = one-mark (ltb j (v .count)) e es seen m (has-mark j seen h) in
       record {
         finds = q .0 ∙ one .finds;
-        marks = subst (λ (l : List ℕ). Marks (es ++ ifUsed (ltb j (v .count)) e) l) (sym (q .1))
-            (one .marks);
+        marks = subst (λ (l : List ℕ). Marks (es ++ ifUsed (ltb j (v .count)) e) l) (sym (q .1)) (one .marks);
       }
 
   module _ (s0 s1 s2 s3 s4 : List ℕ) (b0 b1 b2 b3 : Bool) (h : length s0 ≡ 100)

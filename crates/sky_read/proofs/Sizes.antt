@@ -95,8 +95,7 @@ module _ (k n : ℕ) (t : Talker) (v : Gsv) (sound : Sound v) where
   first-sized : (eqb (v .lines) (linesFor (v .satellites)) && inPlace k v) ≡ true → (k ≡ 1) × (n ≡ 0) → Sized k n t v
   first-sized f z =
       sized (in-place k v (and-right (eqb (v .lines) (linesFor (v .satellites))) _ f))
-      (eqb-true (v .lines) (linesFor (v .satellites)) (and-left _ _ f))
-      (omega (arith, z .0, z .1))
+      (eqb-true (v .lines) (linesFor (v .satellites)) (and-left _ _ f)) (omega (arith, z .0, z .1))
 
   later-sized : (h : Head) → (sameTalker (h .talker) t &&
       (eqb (h .lines) (v .lines) && (eqb (h .satellites) (v .satellites) && inPlace k v))) ≡ true → Begun h k n → Sized k n t v
@@ -105,8 +104,7 @@ module _ (k n : ℕ) (t : Talker) (v : Gsv) (sound : Sound v) where
       let f2 = and-right (eqb (h .lines) (v .lines)) _ f1 in
       let l = eqb-true (h .lines) (v .lines) (and-left _ _ f1) in
       let s = eqb-true (h .satellites) (v .satellites) (and-left _ _ f2) in
-      sized (in-place k v (and-right (eqb (h .satellites) (v .satellites)) _ f2))
-      (sym l ∙ z .announced ∙ ap linesFor s)
+      sized (in-place k v (and-right (eqb (h .satellites) (v .satellites)) _ f2)) (sym l ∙ z .announced ∙ ap linesFor s)
       (omega (arith, z .least, s))
 
   pub follows-sized : (h : Head) (es : List Entry) → follows (seenOf h es) k t v ≡ true → Size h k n → Sized k n t v

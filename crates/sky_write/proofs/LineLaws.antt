@@ -138,8 +138,7 @@ module _ (r : Table) (k : ℕ) where
     rest-good : restBlank (lineAt r k) ≡ true
     unfolding restBlank
     rest-good =
-        and-both _ _ (or-blank _ _ (at-rest 0 (lit< tt)))
-        (and-both _ _ (or-blank _ _ (at-rest 1 (lit< tt)))
+        and-both _ _ (or-blank _ _ (at-rest 0 (lit< tt))) (and-both _ _ (or-blank _ _ (at-rest 1 (lit< tt)))
         (and-both _ _ (or-blank _ _ (at-rest 2 (lit< tt))) (or-blank _ _ (at-rest 3 (lit< tt)))))
 
     module _ (from : 1 ≤ k) (to : k ≤ linesFor (r .count)) where
@@ -154,8 +153,7 @@ module _ (r : Table) (k : ℕ) where
               in-outside 1 9 k from (omega (arith, to, nine)),
               (
                 in-outside 0 99 (r .count) (omega arith) (omega (arith, c .few)),
-                all-zero _
-                    (pass (used (lineAt r k) 0) 3 (entryOf (lineAt r k) 0) _ (at-used 0 (lit< tt))
+                all-zero _ (pass (used (lineAt r k) 0) 3 (entryOf (lineAt r k) 0) _ (at-used 0 (lit< tt))
                     (pass (used (lineAt r k) 1) 7 (entryOf (lineAt r k) 1) _ (at-used 1 (lit< tt))
                     (pass (used (lineAt r k) 2) 11 (entryOf (lineAt r k) 2) _ (at-used 2 (lit< tt))
                     (pass-last (used (lineAt r k) 3) 15 (entryOf (lineAt r k) 3) (at-used 3 (lit< tt)))))),

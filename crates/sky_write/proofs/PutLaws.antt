@@ -84,8 +84,7 @@ module _ (t : Talker) (r : Table) (first : List ℕ) (lines : ℕ) (q : lines �
         most = omega arith;
         place = omega arith;
         long = refl;
-        text = ap
-            (λ (m : ℕ). joined (linesFrom t r 1 m)) e;
+        text = ap (λ (m : ℕ). joined (linesFrom t r 1 m)) e;
         rest = refl;
       }
 
@@ -130,8 +129,7 @@ module _ (t : Talker) (r : Table) (first : List ℕ) (lines : ℕ) (q : lines �
           → Writes (gsvFault v) (gsvBody t v) (midOf at (length out - at) out) a left → Wrote line (drop at out) a left
       wrote-it {v} {a} {left} e w =
           line-wrote (gsvFault (lineAt r k)) (gsvBody t (lineAt r k)) (drop at out) (rw (e, rest-is out at line room) at w)
-          (line-good r full (ready .good) k (p .some) (omega (arith, h, q)))
-          (fits t (lineAt r k))
+          (line-good r full (ready .good) k (p .some) (omega (arith, h, q))) (fits t (lineAt r k))
           (omega (arith, room, length-drop at out))
 
       pub put-next : {v : Gsv} {a : Written} {left : List ℕ} → v ≡ lineAt r k

@@ -13,8 +13,7 @@ one-more : (w n : ℕ) → n < 10 ^ suc w → digitsWithin (suc (suc w)) n ≡ d
 unfolding digitsWithin
 one-more zero n h = rw (lt-ltb n 10 h)
 one-more (suc w) n h =
-    ap (λ (s : List ℕ). cond (ltb n 10) [] s ++ ((48 + n % 10) ∷ []))
-    (one-more w (n / 10) (omega (arith, pow-suc 10 (suc w))))
+    ap (λ (s : List ℕ). cond (ltb n 10) [] s ++ ((48 + n % 10) ∷ [])) (one-more w (n / 10) (omega (arith, pow-suc 10 (suc w))))
 
 -- A number of one digit, and the digits of a number before its last.
 pub last-digit : (n : ℕ) → n < 10 → (48 + n % 10) ∷ [] ≡ decimalText n

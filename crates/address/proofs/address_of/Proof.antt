@@ -17,13 +17,5 @@ returns-3 c = c .known-of .ensures ∙ sixth-comma _ (c .before .before .if2 .le
 
 pub address-of-spec : {M : Type 1} → statement M
 address-of-spec =
-    tie.close
-    (tie.spec
-    returns
-    (λ c. search needs)
-    returns-2
-    (λ c. search needs)
-    (λ c. search needs)
-    (λ c. search needs)
-    (λ c κs. search needs)
-    returns-3)
+    tie.close (tie.spec returns (λ c. search needs) returns-2 (λ c. search needs) (λ c. search needs) (λ c. search needs)
+    (λ c κs. search needs) returns-3)

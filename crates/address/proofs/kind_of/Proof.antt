@@ -79,27 +79,7 @@ returns-8 c = sym (ap (standard _) (not-zda c))
 
 pub kind-of-spec : {M : Type 1} → statement M
 kind-of-spec =
-    tie.close
-    (tie.spec
-    (λ c. search needs)
-    (λ c κs. search needs)
-    returns
-    (λ c. search needs)
-    (λ c κs. search needs)
-    returns-2
-    (λ c. search needs)
-    (λ c κs. search needs)
-    returns-3
-    (λ c. search needs)
-    (λ c κs. search needs)
-    returns-4
-    (λ c. search needs)
-    (λ c κs. search needs)
-    returns-5
-    (λ c. search needs)
-    (λ c κs. search needs)
-    returns-6
-    (λ c. search needs)
-    (λ c κs. search needs)
-    returns-7
-    returns-8)
+    tie.close (tie.spec (λ c. search needs) (λ c κs. search needs) returns (λ c. search needs) (λ c κs. search needs) returns-2
+    (λ c. search needs) (λ c κs. search needs) returns-3 (λ c. search needs) (λ c κs. search needs) returns-4 (λ c. search needs)
+    (λ c κs. search needs) returns-5 (λ c. search needs) (λ c κs. search needs) returns-6 (λ c. search needs) (λ c κs. search needs)
+    returns-7 returns-8)

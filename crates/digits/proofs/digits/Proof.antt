@@ -23,8 +23,7 @@ scan-requires c κs = search needs
 returns-4 : tie.Need-returns-4
 unfolding digitsOf
 returns-4 c =
-    let b2 = c .before .before in
-    let b3 = b2 .before in
+    let b2 = c .before .before in let b3 = b2 .before in
     c .scan .ensures ∙ rw (le-leb _ _ (b3 .if1 .left), le-leb _ _ (b2 .if2 .left), le-leb _ _ (c .before .if3 .left))
 
 pub digits-spec : {M : Type 1} → statement M

@@ -43,20 +43,9 @@ loop-again c = omega (
 returns-2 : tie.Need-returns-2 Inv-loop μ-loop
 returns-2 c = omega (
   arith,
-  find-end (c .before .before .args .b) (now (c .before .before .args .s)) (c .before .loop .i)
-      (c .loop-test .left),
+  find-end (c .before .before .args .b) (now (c .before .before .args .s)) (c .before .loop .i) (c .loop-test .left),
 )
 
 pub find-spec : {M : Type 1} → statement M
 find-spec =
-    tie.close
-    (tie.spec
-    Inv-loop
-    μ-loop
-    loop-holds
-    shared-slice-read-if1
-    returns
-    add-i
-    loop-less
-    loop-again
-    returns-2)
+    tie.close (tie.spec Inv-loop μ-loop loop-holds shared-slice-read-if1 returns add-i loop-less loop-again returns-2)

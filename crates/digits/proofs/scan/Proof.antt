@@ -11,8 +11,7 @@ use Rattle.digits.proofs.scan.Statement.{statement}
 use Rattle.digits.proofs.scan.Tie as tie
 
 abbrev Inv-loop : tie.InvT-loop
-Inv-loop s acc₀ i₀ acc i =
-    (i ≤ length s) × (length s ≤ 9) × (acc < 10 ^ i) × (digitsFrom acc (drop i s) ≡ digitsFrom 0 s)
+Inv-loop s acc₀ i₀ acc i = (i ≤ length s) × (length s ≤ 9) × (acc < 10 ^ i) × (digitsFrom acc (drop i s) ≡ digitsFrom 0 s)
 
 abbrev μ-loop : tie.MeasureT-loop
 μ-loop s acc₀ i₀ acc i = length s - i
@@ -28,15 +27,13 @@ returns c = sym (scan-low _ _ _ (c .before .before .loop-test .taken) (c .if1 .t
 
 returns-2 : tie.Need-returns-2 Inv-loop μ-loop
 returns-2 c =
-    let b3 = c .before .before .before in
-    let b4 = b3 .before in
+    let b3 = c .before .before .before in let b4 = b3 .before in
     sym (scan-high _ _ _ (b3 .loop-test .taken) (c .if2 .taken)) ∙ b4 .loop .inv .3
 
 mul-acc : tie.Need-mul-acc Inv-loop μ-loop
 mul-acc c = omega (
   arith,
-  room-lt {i = c .before .before .before .before .loop .i} (omega arith)
-      (c .before .before .before .before .loop .inv .2),
+  room-lt {i = c .before .before .before .before .loop .i} (omega arith) (c .before .before .before .before .loop .inv .2),
 )
 
 wide-requires : tie.Need-wide-requires Inv-loop μ-loop

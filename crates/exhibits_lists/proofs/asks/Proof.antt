@@ -30,5 +30,4 @@ returns-3 c = search needs
 
 pub asks-spec : {M : Type 1} → statement M
 asks-spec =
-    tie.close
-    (tie.spec enum-known-row follows-requires enum-told enum-told-2 returns returns-2 returns-3)
+    tie.close (tie.spec enum-known-row follows-requires enum-told enum-told-2 returns returns-2 returns-3)

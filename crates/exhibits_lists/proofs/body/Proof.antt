@@ -95,22 +95,6 @@ returns-3 c = c .pair .ensures ∙ rw (c .before .before .before .parse .ensures
 
 pub body-spec : {M : Type 1} → statement M
 body-spec =
-    tie.close
-    (tie.spec
-    past-blanks-requires
-    returns
-    past-word-requires
-    past-blanks-requires-2
-    past-word-requires-2
-    past-blanks-requires-3
-    returns-2
-    sub-parse
-    part-parse-start
-    part-parse-end
-    parse-requires
-    sub-parse-2
-    part-parse-start-2
-    part-parse-end-2
-    parse-requires-2
-    pair-requires
-    returns-3)
+    tie.close (tie.spec past-blanks-requires returns past-word-requires past-blanks-requires-2 past-word-requires-2 past-blanks-requires-3
+    returns-2 sub-parse part-parse-start part-parse-end parse-requires sub-parse-2 part-parse-start-2 part-parse-end-2 parse-requires-2
+    pair-requires returns-3)

@@ -20,23 +20,13 @@ returns-3 c = rw (ne-eqb _ _ (c .before .before .if1 .left), ne-eqb _ _ (c .befo
 
 returns-4 : tie.Need-returns-4
 unfolding followsOf
-returns-4 c = rw (
-  ne-eqb _ _ (c .before .before .before .if1 .left),
-  ne-eqb _ _ (c .before .before .if2 .left),
-  lt-leb _ _
-      (c .before .if3 .left),
-  le-leb _ _ (c .if4 .taken),
-)
+returns-4 c = rw (ne-eqb _ _ (c .before .before .before .if1 .left), ne-eqb _ _ (c .before .before .if2 .left))
+    (rw (lt-leb _ _ (c .before .if3 .left), le-leb _ _ (c .if4 .taken)))
 
 returns-5 : tie.Need-returns-5
 unfolding followsOf
-returns-5 c = rw (
-  ne-eqb _ _ (c .before .before .before .if1 .left),
-  ne-eqb _ _ (c .before .before .if2 .left),
-  lt-leb _ _
-      (c .before .if3 .left),
-  lt-leb _ _ (c .if4 .left),
-)
+returns-5 c = rw (ne-eqb _ _ (c .before .before .before .if1 .left), ne-eqb _ _ (c .before .before .if2 .left))
+    (rw (lt-leb _ _ (c .before .if3 .left), lt-leb _ _ (c .if4 .left)))
 
 pub follows-spec : {M : Type 1} → statement M
 follows-spec = tie.close (tie.spec returns returns-2 returns-3 returns-4 returns-5)

@@ -28,5 +28,4 @@ returns-3 c = search needs
 
 pub pair-spec : {M : Type 1} → statement M
 pair-spec =
-    tie.close
-    (tie.spec enum-known-p enum-known-q enum-told enum-told-2 returns returns-2 returns-3)
+    tie.close (tie.spec enum-known-p enum-known-q enum-told enum-told-2 returns returns-2 returns-3)

@@ -39,23 +39,10 @@ up-to-requires c κs = search needs
 
 returns-4 : tie.Need-returns-4
 unfolding numberOf
-returns-4 c = c .up-to .ensures ∙ rw (
-  c .before .scan .ensures,
-  le-leb _ _ (c .before .before .before .before .before .if1 .left),
-  le-leb _ _
-      (c .before .before .before .before .if2 .left),
-  ← c .before .before .before .is-padded .ensures,
-  c .before .before .if3 .left,
-)
+returns-4 c = c .up-to .ensures ∙ rw (c .before .scan .ensures, le-leb _ _ (c .before .before .before .before .before .if1 .left))
+    (rw (le-leb _ _ (c .before .before .before .before .if2 .left), ← c .before .before .before .is-padded .ensures)
+    (rw (c .before .before .if3 .left)))
 
 pub parse-spec : {M : Type 1} → statement M
 parse-spec =
-    tie.close
-    (tie.spec
-    returns
-    returns-2
-    is-padded-requires
-    returns-3
-    scan-requires
-    up-to-requires
-    returns-4)
+    tie.close (tie.spec returns returns-2 is-padded-requires returns-3 scan-requires up-to-requires returns-4)

@@ -32,5 +32,4 @@ returns c = c .body .ensures ∙ body-front (c .before .before .before .before .
 
 pub read-row-spec : {M : Type 1} → statement M
 read-row-spec =
-    tie.close
-    (tie.spec body-length-requires sub-body part-body-start part-body-end body-requires returns)
+    tie.close (tie.spec body-length-requires sub-body part-body-start part-body-end body-requires returns)

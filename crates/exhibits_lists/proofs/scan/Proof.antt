@@ -12,8 +12,7 @@ use Rattle.exhibits_lists.proofs.scan.Statement.{statement}
 use Rattle.exhibits_lists.proofs.scan.Tie as tie
 
 abbrev Inv-loop : tie.InvT-loop
-Inv-loop s acc₀ i₀ acc i =
-    (i ≤ length s) × (length s ≤ 10) × (acc < 10 ^ i) × (digitsFrom acc (drop i s) ≡ digitsFrom 0 s)
+Inv-loop s acc₀ i₀ acc i = (i ≤ length s) × (length s ≤ 10) × (acc < 10 ^ i) × (digitsFrom acc (drop i s) ≡ digitsFrom 0 s)
 
 abbrev μ-loop : tie.MeasureT-loop
 μ-loop s acc₀ i₀ acc i = length s - i
@@ -34,8 +33,7 @@ returns-2 c = sym (scan-high _ _ _ (c .before .before .before .loop-test .taken)
 mul-acc : tie.Need-mul-acc Inv-loop μ-loop
 mul-acc c = omega (
   arith,
-  room-lt {i = c .before .before .before .before .loop .i} (omega arith)
-      (c .before .before .before .before .loop .inv .2),
+  room-lt {i = c .before .before .before .before .loop .i} (omega arith) (c .before .before .before .before .loop .inv .2),
 )
 
 wide-requires : tie.Need-wide-requires Inv-loop μ-loop

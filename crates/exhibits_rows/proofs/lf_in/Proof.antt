@@ -15,22 +15,13 @@ within b k s r e = omega (arith, e, find-le b (take k s), length-take k s)
 
 add-result : tie.Need-add-result
 add-result c =
-    let a = c .before .before .before .before .before .args .w .at in
-    let e = c .before .before .before .before .before .args .w .end in
+    let a = c .before .before .before .before .before .args .w .at in let e = c .before .before .before .before .before .args .w .end in
     omega (
       arith,
-      within 10 (e - a) (drop a (c .before .before .before .before .before .args .buf .now)) (c .find .result)
-          (c .find .ensures),
+      within 10 (e - a) (drop a (c .before .before .before .before .before .args .buf .now)) (c .find .result) (c .find .ensures),
     )
 
 pub lf-in-spec : {M : Type 1} → statement M
 lf-in-spec =
-    tie.close
-    (tie.spec
-    (λ c. search needs)
-    (λ c. search needs)
-    (λ c. search needs)
-    (λ c. search needs)
-    (λ c κs. search needs)
-    add-result
+    tie.close (tie.spec (λ c. search needs) (λ c. search needs) (λ c. search needs) (λ c. search needs) (λ c κs. search needs) add-result
     (λ c. search needs))

@@ -13,38 +13,8 @@ abbrev μ-loop : tie.MeasureT-loop
 
 pub list-entries-spec : {M : Type 1} → statement M
 list-entries-spec =
-    tie.close
-    (tie.spec
-    Inv-loop
-    μ-loop
-    (λ c κs. search needs)
-    (λ c κs. search needs)
-    (λ c. (refl, refl))
-    (λ c κs. search needs)
-    (λ c. search needs)
-    (λ c κs. search needs)
-    (λ c. search needs)
-    (λ c κs. search needs)
-    (λ c. omega arith)
-    (λ c. omega arith)
-    (λ c. tt)
-    (λ c. search needs)
-    (λ c κs. search needs)
-    (λ c. omega arith)
-    (λ c. omega arith)
-    (λ c. tt)
-    (λ c. search needs)
-    (λ c κs. search needs)
-    (λ c. omega arith)
-    (λ c. omega arith)
-    (λ c. tt)
-    (λ c κs. search needs)
-    (λ c. omega arith)
-    (λ c. omega arith)
-    (λ c. tt)
-    (λ c. omega arith)
-    (λ c. omega arith)
-    (λ c. (omega arith, omega arith))
-    (λ c. omega arith)
-    (λ c. omega arith)
-    (λ c. tt))
+    tie.close (tie.spec Inv-loop μ-loop (λ c κs. search needs) (λ c κs. search needs) (λ c. (refl, refl)) (λ c κs. search needs)
+    (λ c. search needs) (λ c κs. search needs) (λ c. search needs) (λ c κs. search needs) (λ c. omega arith) (λ c. omega arith) (λ c. tt)
+    (λ c. search needs) (λ c κs. search needs) (λ c. omega arith) (λ c. omega arith) (λ c. tt) (λ c. search needs) (λ c κs. search needs)
+    (λ c. omega arith) (λ c. omega arith) (λ c. tt) (λ c κs. search needs) (λ c. omega arith) (λ c. omega arith) (λ c. tt)
+    (λ c. omega arith) (λ c. omega arith) (λ c. (omega arith, omega arith)) (λ c. omega arith) (λ c. omega arith) (λ c. tt))

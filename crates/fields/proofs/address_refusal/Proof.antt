@@ -21,8 +21,7 @@ returns c = line-refused _ _ (c .before .line-refusal .ensures) (c .if1 .taken)
 decided : (c : tie.After-address-of)
     → unknownNo (c .address-of .result) ≡ addressRefusal (c .before .before .before .before .before .args .line .now)
 decided c =
-    let b2 = c .before .before in
-    let b3 = b2 .before in
+    let b2 = c .before .before in let b3 = b2 .before in
     address-refused _ _ (b3 .line-refusal .ensures) (b2 .if1 .left) _ (c .address-of .ensures)
 
 returns-2 : tie.Need-returns-2
@@ -36,18 +35,6 @@ returns-4 c = sym (ap unknownNo (c .enum-told3 .given .1)) ∙ decided (c .befor
 
 pub address-refusal-spec : {M : Type 1} → statement M
 address-refusal-spec =
-    tie.close
-    (tie.spec
-    (λ c κs. search needs)
-    returns
-    (λ c. omega (arith, long c))
-    (λ c. omega (arith, long c))
-    (λ c. let l = long c in search needs)
-    (λ c. let l = long c in search needs)
-    (λ c κs. search needs)
-    (λ c. search needs)
-    (λ c. search needs)
-    (λ c. search needs)
-    returns-2
-    returns-3
-    returns-4)
+    tie.close (tie.spec (λ c κs. search needs) returns (λ c. omega (arith, long c)) (λ c. omega (arith, long c))
+    (λ c. let l = long c in search needs) (λ c. let l = long c in search needs) (λ c κs. search needs) (λ c. search needs)
+    (λ c. search needs) (λ c. search needs) returns-2 returns-3 returns-4)

@@ -31,8 +31,7 @@ returns c =
 
 returns-2 : tie.Need-returns-2
 returns-2 c =
-    let b = c .before .before .before .before .before in
-    let a = b .before .before .before .args in
+    let b = c .before .before .before .before .before in let a = b .before .before .before .args in
     no-zeroth (a .line .now) (a .n) (known b) (c .if2 .taken)
 
 -- as many fields were counted as the body has
@@ -42,9 +41,7 @@ counted c = c .places .ensures .fields ∙ rw body-part
 
 returns-3 : tie.Need-returns-3
 returns-3 c =
-    let b3 = c .before .before .before in
-    let b = b3 .before .before .before in
-    let a = b .before .before .before .args in
+    let b3 = c .before .before .before in let b = b3 .before .before .before in let a = b .before .before .before .args in
     past-last (a .line .now) (a .n) (known b) (omega arith) (omega (arith, counted b3))
 
 -- where there is a field n: the line, n, and the ends that were kept
@@ -78,22 +75,7 @@ returns-4 c = placed (line c) (n c) (has-address c) (omega arith) (is-field c) (
 
 pub field-at-spec : {M : Type 1} → statement M
 field-at-spec =
-    tie.close
-    (tie.spec
-    (λ c κs. search needs)
-    returns
-    (λ c. omega (arith, long c))
-    (λ c. omega (arith, long c))
-    (λ c. let l = long c in search needs)
-    (λ c. search needs)
-    (λ c. search needs)
-    (λ c κs. search needs)
-    returns-2
-    returns-3
-    (λ c. omega (arith, within c))
-    (λ c. omega (arith, within c))
-    (λ c. omega (arith, small c .0))
-    (λ c. omega (arith, within c))
-    (λ c. omega (arith, within c))
-    (λ c. omega (arith, small c .1))
-    returns-4)
+    tie.close (tie.spec (λ c κs. search needs) returns (λ c. omega (arith, long c)) (λ c. omega (arith, long c))
+    (λ c. let l = long c in search needs) (λ c. search needs) (λ c. search needs) (λ c κs. search needs) returns-2 returns-3
+    (λ c. omega (arith, within c)) (λ c. omega (arith, within c)) (λ c. omega (arith, small c .0)) (λ c. omega (arith, within c))
+    (λ c. omega (arith, within c)) (λ c. omega (arith, small c .1)) returns-4)

@@ -25,10 +25,8 @@ loop-holds c = (omega arith, omega arith, refl, omega arith, refl)
 
 loop-again : tie.Need-loop-again Inv-loop μ-loop
 loop-again c =
-    let b3 = c .before .before .before in let b6 = b3 .before .before .before in
-    let a = b6 .before .before .before .args in
-    let l = b6 .loop in
-    let h = b3 .before .before .loop-test .taken in
+    let b3 = c .before .before .before in let b6 = b3 .before .before .before in let a = b6 .before .before .before .args in
+    let l = b6 .loop in let h = b3 .before .before .loop-test .taken in
     let e = b3 .store .ensures in (
       omega arith,
       omega (arith, mark-most (eqb (getD (a .s .now) (l .i) 0) 44)),
@@ -44,16 +42,13 @@ add-n c =
 
 same-length : tie.Need-same-length Inv-loop μ-loop
 same-length c =
-    let b2 = c .before .before in let b5 = b2 .before .before .before in
-    let l = b5 .loop in
+    let b2 = c .before .before in let b5 = b2 .before .before .before in let l = b5 .loop in
     set-same (l .p) _ (b5 .before .before .before .args .p .now) (l .n) (l .i) (b2 .store2 .ensures) (l .inv .2)
 
 returns : tie.Need-returns Inv-loop μ-loop
 returns c =
-    let b2 = c .before .before in let b5 = b2 .before .before .before in
-    let s = b5 .before .before .before .args .s .now in
-    let l = b5 .loop in
-    let h = b2 .before .before .loop-test .left in
+    let b2 = c .before .before in let b5 = b2 .before .before .before in let s = b5 .before .before .before .args .s .now in
+    let l = b5 .loop in let h = b2 .before .before .loop-test .left in
     record {
       fields = omega (arith, count-end (l .p) (l .n) s (l .i) h, ends-count 0 s);
       ends = b2 .store2 .ensures ∙ (sym (store-end (l .p) (l .n) s (l .i) h) ∙ l .inv .4);

@@ -60,24 +60,6 @@ returns-2 c = rw (c .held-in .ensures) (found-end _ _ _ (c .before .loop-test .l
 
 pub next-line-spec : {M : Type 1} → statement M
 next-line-spec =
-    tie.close
-    (tie.spec
-    Inv-loop
-    μ-loop
-    loop-holds
-    (λ c. omega arith)
-    (λ c. search needs)
-    (λ c. omega arith)
-    loop-again
-    (λ c κs. search needs)
-    sub-t11
-    (λ c. search needs)
-    returns
-    (λ c. search needs)
-    (λ c κs. search needs)
-    (λ c. search needs)
-    (λ c. omega arith)
-    loop-again-2
-    (λ c κs. search needs)
-    sub-t14
-    returns-2)
+    tie.close (tie.spec Inv-loop μ-loop loop-holds (λ c. omega arith) (λ c. search needs) (λ c. omega arith) loop-again
+    (λ c κs. search needs) sub-t11 (λ c. search needs) returns (λ c. search needs) (λ c κs. search needs) (λ c. search needs)
+    (λ c. omega arith) loop-again-2 (λ c κs. search needs) sub-t14 returns-2)

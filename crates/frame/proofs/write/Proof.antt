@@ -13,15 +13,12 @@ returns c =
 
 returns-2 : tie.Need-returns-2
 returns-2 c =
-    let b2 = c .before .before in
-    let b6 = b2 .before .before .before .before in
+    let b2 = c .before .before in let b6 = b2 .before .before .before .before in
     rw (c .refuse .ensures) (long-out (b6 .args .fault) (b6 .args .body .now) (b6 .args .out .now) (b2 .if1 .left) (c .before .if2 .taken))
 
 returns-3 : tie.Need-returns-3
 returns-3 c =
-    let b2 = c .before .before in
-    let b3 = b2 .before in
-    let b7 = b3 .before .before .before .before in
+    let b2 = c .before .before in let b3 = b2 .before in let b7 = b3 .before .before .before .before in
     rw (c .refuse2 .ensures) (short-out (b7 .args .fault) (b7 .args .body .now) (b7 .args .out .now) (b3 .if1 .left) (b2 .if2 .left)
     (c .before .if3 .taken))
 
@@ -31,9 +28,7 @@ returns-4 c = rw (c .done .ensures)
     (c .before .before .before .before .before .before .before .before .before .before .before .args .body .now)
     (c .before .before .before .before .before .before .before .before .before .before .before .args .out .now)
     (c .before .before .before .before .before .before .before .if1 .left) (c .before .before .before .before .before .before .if2 .left)
-    (c .before .before .before .before .before .if3 .left)
-    (put-whole (c .before .before .before .seal .ensures)
-    (omega (
+    (c .before .before .before .before .before .if3 .left) (put-whole (c .before .before .before .seal .ensures) (omega (
       arith,
       line-length (c .before .before .before .before .before .before .before .before .before .before .before .args .body
           .now),
@@ -42,15 +37,5 @@ returns-4 c = rw (c .done .ensures)
 
 pub write-spec : {M : Type 1} → statement M
 write-spec =
-    tie.close
-    (tie.spec
-    returns
-    (λ c κs. search needs)
-    returns-2
-    (λ c. search needs)
-    (λ c κs. search needs)
-    returns-3
-    (λ c κs. search needs)
-    (λ c κs. search needs)
-    (λ c. search needs)
-    returns-4)
+    tie.close (tie.spec returns (λ c κs. search needs) returns-2 (λ c. search needs) (λ c κs. search needs) returns-3
+    (λ c κs. search needs) (λ c κs. search needs) (λ c. search needs) returns-4)

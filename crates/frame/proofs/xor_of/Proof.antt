@@ -30,8 +30,7 @@ loop-less c = omega arith
 loop-again : tie.Need-loop-again Inv-loop μ-loop
 loop-again c = (
   omega arith,
-  sym
-      (xor-next (c .before .before .before .args .s .now) (c .before .before .loop .i) (c .before .loop-test .taken)
+  sym (xor-next (c .before .before .before .args .s .now) (c .before .before .loop .i) (c .before .loop-test .taken)
       (c .before .before .loop .xor)) ∙ c .before .before .loop .inv .1,
 )
 
@@ -42,13 +41,4 @@ returns c =
 
 pub xor-of-spec : {M : Type 1} → statement M
 xor-of-spec =
-    tie.close
-    (tie.spec
-    Inv-loop
-    μ-loop
-    loop-holds
-    shared-slice-read-xor
-    add-i
-    loop-less
-    loop-again
-    returns)
+    tie.close (tie.spec Inv-loop μ-loop loop-holds shared-slice-read-xor add-i loop-less loop-again returns)

@@ -8,8 +8,7 @@ use Rattle.host.proofs.castanwel_field.Tie as tie
 
 returns : tie.Need-returns
 returns c =
-    let b = c .before .before .before .before .before in
-    let e = b .field-at .ensures in
+    let b = c .before .before .before .before .before in let e = b .field-at .ensures in
     let a = b .before .before .args in (
       ap (λ (f : Field). f .no) e,
       (

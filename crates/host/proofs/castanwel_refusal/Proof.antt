@@ -11,8 +11,7 @@ use Rattle.host.proofs.castanwel_refusal.Tie as tie
 
 returns : tie.Need-returns
 returns c =
-    let b = c .before .before in
-    let t = b .read .ensures .0 in
+    let b = c .before .before in let t = b .read .ensures .0 in
     let q = told-refusal (b .before .before .before .args .line .now) (replicate 33 (pos 0)) refl in
     let number = ap (λ (x : Told). x .no) t ∙ q .0 in
     (number, (c .single-line .ensures ∙ ap singleLine number, ap (λ (x : Told). x .field) t ∙ q .1))

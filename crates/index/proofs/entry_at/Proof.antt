@@ -76,19 +76,5 @@ returns-2 c = search needs
 
 pub entry-at-spec : {M : Type 1} → statement M
 entry-at-spec =
-    tie.close
-    (tie.spec
-    is-near-requires
-    shared-slice-read-made
-    cast-made
-    add-made
-    shared-slice-read-made-2
-    cast-made-2
-    add-made-2
-    shared-slice-read-made-3
-    cast-made-3
-    add-made-3
-    made-requires
-    returns
-    longer-requires
-    returns-2)
+    tie.close (tie.spec is-near-requires shared-slice-read-made cast-made add-made shared-slice-read-made-2 cast-made-2 add-made-2
+    shared-slice-read-made-3 cast-made-3 add-made-3 made-requires returns longer-requires returns-2)

@@ -45,8 +45,7 @@ shared-slice-read-result-3 c = search needs
 -- src/lib.rt:175:1
 returns-3 : tie.Need-returns-3
 returns-3 c = λ e.
-    let s = c .before .before .before .before .before .args .s .now in
-    let at = c .before .before .before .before .before .args .at in
+    let s = c .before .before .before .before .before .args .s .now in let at = c .before .before .before .before .before .args .at in
     let small = small-three (getD s at 0) (getD s (at + 1) 0) (getD s (at + 2) 0) e in
     record {
       inside = omega (arith, c .before .before .before .before .if1 .left, c .before .before .before .if2 .left);
@@ -57,14 +56,5 @@ returns-3 c = λ e.
 
 pub is-near-spec : {M : Type 1} → statement M
 is-near-spec =
-    tie.close
-    (tie.spec
-    returns
-    sub-if2
-    returns-2
-    shared-slice-read-result
-    add-result
-    shared-slice-read-result-2
-    add-result-2
-    shared-slice-read-result-3
-    returns-3)
+    tie.close (tie.spec returns sub-if2 returns-2 shared-slice-read-result add-result shared-slice-read-result-2 add-result-2
+    shared-slice-read-result-3 returns-3)

@@ -61,13 +61,4 @@ returns-3 c = gap-bad (c .before .before .before .before .args .s .now) (c .befo
 
 pub longer-spec : {M : Type 1} → statement M
 longer-spec =
-    tie.close
-    (tie.spec
-    take-requires
-    enum-known-gap
-    with-skip-requires
-    enum-told
-    enum-told-2
-    returns
-    returns-2
-    returns-3)
+    tie.close (tie.spec take-requires enum-known-gap with-skip-requires enum-told enum-told-2 returns returns-2 returns-3)

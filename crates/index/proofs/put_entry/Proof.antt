@@ -62,14 +62,5 @@ returns-2 c = search needs
 
 pub put-entry-spec : {M : Type 1} → statement M
 put-entry-spec =
-    tie.close
-    (tie.spec
-    less-requires
-    less-requires-2
-    less-requires-3
-    put-three-requires
-    same-length
-    returns
-    put-longer-requires
-    same-length-2
-    returns-2)
+    tie.close (tie.spec less-requires less-requires-2 less-requires-3 put-three-requires same-length returns put-longer-requires
+    same-length-2 returns-2)

@@ -52,13 +52,4 @@ returns c = let skip = skip-is (c .before .before .before .before .before .befor
 
 pub put-longer-spec : {M : Type 1} → statement M
 put-longer-spec =
-    tie.close
-    (tie.spec
-    less-requires
-    put-requires
-    less-requires-2
-    less-requires-3
-    put-requires-2
-    put-requires-3
-    same-length
-    returns)
+    tie.close (tie.spec less-requires put-requires less-requires-2 less-requires-3 put-requires-2 put-requires-3 same-length returns)

@@ -50,8 +50,7 @@ slice-write-out-3 c = rw (
   length-set
       (set (c .before .before .before .args .out .now) (c .before .before .before .args .at) (c .before .before .before .args .gap))
       (c .before .before .before .args .at + 1) (c .before .before .before .args .skip),
-  length-set
-      (c .before .before .before .args .out .now) (c .before .before .before .args .at) (c .before .before .before .args .gap),
+  length-set (c .before .before .before .args .out .now) (c .before .before .before .args .at) (c .before .before .before .args .gap),
 ) (omega arith)
 
 -- src/lib.rt:69:20
@@ -103,25 +102,5 @@ returns-2 c = c .before .before .before .before .before .before .before .before 
 
 pub put-three-spec : {M : Type 1} → statement M
 put-three-spec =
-    tie.close
-    (tie.spec
-    sub-if2
-    cast-out
-    slice-write-out
-    cast-out-2
-    add-out
-    slice-write-out-2
-    cast-out-3
-    add-out-2
-    slice-write-out-3
-    add-result
-    same-length
-    returns
-    cast-put
-    put-requires
-    cast-put-2
-    put-requires-2
-    cast-put-3
-    put-requires-3
-    same-length-2
-    returns-2)
+    tie.close (tie.spec sub-if2 cast-out slice-write-out cast-out-2 add-out slice-write-out-2 cast-out-3 add-out-2 slice-write-out-3
+    add-result same-length returns cast-put put-requires cast-put-2 put-requires-2 cast-put-3 put-requires-3 same-length-2 returns-2)

@@ -43,8 +43,7 @@ add-result c = omega (
   c .before .size2 .ensures,
   c .size3 .ensures,
   sevens-most (c .before .before .less3 .result),
-  sevens-most
-      (c .before .before .before .before .before .before .args .e .length),
+  sevens-most (c .before .before .before .before .before .before .args .e .length),
 )
 
 -- src/lib.rt:103:5
@@ -54,11 +53,9 @@ add-result-2 c = omega (
   c .before .before .before .before .size .ensures,
   c .before .size2 .ensures,
   c .size3 .ensures,
-  sevens-most
-      (c .before .before .before .before .before .less .result),
+  sevens-most (c .before .before .before .before .before .less .result),
   sevens-most (c .before .before .less3 .result),
-  sevens-most
-      (c .before .before .before .before .before .before .args .e .length),
+  sevens-most (c .before .before .before .before .before .before .args .e .length),
 )
 
 -- src/lib.rt:98:1
@@ -67,26 +64,10 @@ unfolding entryBytes
 returns c = let skip = skip-is (c .before .before .before .before .before .before .args .e)
     (c .before .before .before .before .before .before .args .last) (c .before .before .before .less2 .ensures)
     (c .before .before .less3 .ensures) in
-    rw (
-      c .before .before .before .before .size .ensures,
-      c .before .size2 .ensures,
-      c .size3 .ensures,
-      length-append,
-      length-append,
-      c .before .before .before .before .before .less .ensures,
-      skip,
-    )
+    rw (c .before .before .before .before .size .ensures, c .before .size2 .ensures, c .size3 .ensures, length-append, length-append)
+    (rw (c .before .before .before .before .before .less .ensures, skip))
 
 pub size-spec : {M : Type 1} → statement M
 size-spec =
-    tie.close
-    (tie.spec
-    less-requires
-    size-requires
-    less-requires-2
-    less-requires-3
-    size-requires-2
-    size-requires-3
-    add-result
-    add-result-2
-    returns)
+    tie.close (tie.spec less-requires size-requires less-requires-2 less-requires-3 size-requires-2 size-requires-3 add-result
+    add-result-2 returns)

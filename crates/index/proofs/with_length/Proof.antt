@@ -69,13 +69,4 @@ returns-3 c = length-bad (c .before .before .before .before .args .s .now) (c .b
 
 pub with-length-spec : {M : Type 1} → statement M
 with-length-spec =
-    tie.close
-    (tie.spec
-    take-requires
-    enum-known-length
-    made-requires
-    enum-told
-    enum-told-2
-    returns
-    returns-2
-    returns-3)
+    tie.close (tie.spec take-requires enum-known-length made-requires enum-told enum-told-2 returns returns-2 returns-3)

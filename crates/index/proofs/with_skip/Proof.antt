@@ -25,8 +25,7 @@ enum-known-skip c = search needs
 with-length-requires : tie.Need-with-length-requires
 with-length-requires c κs = (
   c .before .before .before .before .before .pre,
-  taken
-      (c .before .before .before .before .before .args .s .now) (c .before .before .before .before .before .args .at)
+  taken (c .before .before .before .before .before .args .s .now) (c .before .before .before .before .before .args .at)
       (c .before .skip .given .0 .0) (c .before .skip .given .0 .1 .0)
       (sym (c .before .before .before .take .ensures) ∙ c .before .skip .given .1) .small,
 )
@@ -66,13 +65,4 @@ returns-3 c = skip-bad (c .before .before .before .before .args .s .now) (c .bef
 
 pub with-skip-spec : {M : Type 1} → statement M
 with-skip-spec =
-    tie.close
-    (tie.spec
-    take-requires
-    enum-known-skip
-    with-length-requires
-    enum-told
-    enum-told-2
-    returns
-    returns-2
-    returns-3)
+    tie.close (tie.spec take-requires enum-known-skip with-length-requires enum-told enum-told-2 returns returns-2 returns-3)

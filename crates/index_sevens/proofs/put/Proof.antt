@@ -90,20 +90,5 @@ returns-2 c = record {
 
 pub put-spec : {M : Type 1} → statement M
 put-spec =
-    tie.close
-    (tie.spec
-    Inv-loop
-    μ-loop
-    loop-holds
-    cast-put
-    put-requires
-    same-length
-    returns
-    cast-put-2
-    add-put
-    put-requires-2
-    add-n
-    loop-less
-    loop-again
-    same-length-2
-    returns-2)
+    tie.close (tie.spec Inv-loop μ-loop loop-holds cast-put put-requires same-length returns cast-put-2 add-put put-requires-2 add-n
+    loop-less loop-again same-length-2 returns-2)

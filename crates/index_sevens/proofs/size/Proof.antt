@@ -29,8 +29,7 @@ unfolding sevens
 returns c = omega (
   arith,
   c .before .before .loop .inv .1,
-  size-last (c .before .before .loop .n) (c .before .before .loop .left)
-      (omega arith) (c .if1 .taken),
+  size-last (c .before .before .loop .n) (c .before .before .loop .left) (omega arith) (c .if1 .taken),
 )
 
 -- src/lib.rt:29:9
@@ -48,8 +47,7 @@ loop-again c = (
   omega (
     arith,
     c .before .before .loop .inv .1,
-    size-more (c .before .before .loop .n) (c .before .before .loop .left) (omega arith)
-        (c .if1 .left),
+    size-more (c .before .before .loop .n) (c .before .before .loop .left) (omega arith) (c .if1 .left),
   ),
 )
 
@@ -66,15 +64,4 @@ returns-2 c = let four : c .before .loop .n ≡ 4 = omega arith in
 
 pub size-spec : {M : Type 1} → statement M
 size-spec =
-    tie.close
-    (tie.spec
-    Inv-loop
-    μ-loop
-    loop-holds
-    add-result
-    returns
-    add-n
-    loop-less
-    loop-again
-    add-result-2
-    returns-2)
+    tie.close (tie.spec Inv-loop μ-loop loop-holds add-result returns add-n loop-less loop-again add-result-2 returns-2)

@@ -47,8 +47,7 @@ returns-3 : tie.Need-returns-3
 returns-3 c = let byte : c .before .before .wide .result < 256 = omega (
   arith,
   c .before .before .wide .ensures,
-  c .before .before .before .shared-slice-known2 .given
-      (c .before .before .before .before .before .before .args .at),
+  c .before .before .before .shared-slice-known2 .given (c .before .before .before .before .before .before .args .at),
 ) in
     c .take-more .ensures ∙ ap (takenAt (length (c .before .before .before .before .before .before .args .s .now)))
     (first-more (c .before .before .before .before .before .before .args .s .now)
@@ -57,13 +56,4 @@ returns-3 c = let byte : c .before .before .wide .result < 256 = omega (
 
 pub take-spec : {M : Type 1} → statement M
 take-spec =
-    tie.close
-    (tie.spec
-    returns
-    shared-slice-read-wide
-    wide-requires
-    add-t8
-    returns-2
-    add-take-more
-    take-more-requires
-    returns-3)
+    tie.close (tie.spec returns shared-slice-read-wide wide-requires add-t8 returns-2 add-take-more take-more-requires returns-3)

@@ -25,8 +25,7 @@ loop-holds c = (
   omega arith,
   (
     fine-one (c .before .args .low) (c .before .pre),
-    ap within
-        (onto-joined (c .before .args .low) (takeGroups 4 (drop (c .before .args .at) (c .before .args .s .now)))),
+    ap within (onto-joined (c .before .args .low) (takeGroups 4 (drop (c .before .args .at) (c .before .args .s .now)))),
   ),
 )
 
@@ -87,8 +86,7 @@ mul-sum : tie.Need-mul-sum Inv-loop μ-loop
 mul-sum c = let small : c .before .wide .result - 128 < 128 = omega (
   arith,
   c .before .wide .ensures,
-  c .before .before .shared-slice-known2 .given
-      (c .before .before .before .before .before .loop .place),
+  c .before .before .shared-slice-known2 .given (c .before .before .before .before .before .loop .place),
 ) in
     let b = part-fits (c .before .before .before .before .before .loop .n) (c .before .before .before .before .before .loop .sum)
     (c .before .before .before .before .before .loop .unit) (c .before .wide .result - 128)
@@ -100,8 +98,7 @@ add-sum : tie.Need-add-sum Inv-loop μ-loop
 add-sum c = let small : c .before .wide .result - 128 < 128 = omega (
   arith,
   c .before .wide .ensures,
-  c .before .before .shared-slice-known2 .given
-      (c .before .before .before .before .before .loop .place),
+  c .before .before .shared-slice-known2 .given (c .before .before .before .before .before .loop .place),
 ) in
     let b = sum-fits (c .before .before .before .before .before .loop .n) (c .before .before .before .before .before .loop .sum)
     (c .before .before .before .before .before .loop .unit) (c .before .wide .result - 128)
@@ -155,24 +152,5 @@ returns-4 c = take-over (c .before .before .before .args .s .now) (c .before .lo
 
 pub take-more-spec : {M : Type 1} → statement M
 take-more-spec =
-    tie.close
-    (tie.spec
-    Inv-loop
-    μ-loop
-    loop-holds
-    returns
-    shared-slice-read-wide
-    wide-requires
-    mul-v
-    add-v
-    returns-2
-    add-t18
-    returns-3
-    mul-sum
-    add-sum
-    mul-unit
-    add-place
-    add-n
-    loop-less
-    loop-again
-    returns-4)
+    tie.close (tie.spec Inv-loop μ-loop loop-holds returns shared-slice-read-wide wide-requires mul-v add-v returns-2 add-t18 returns-3
+    mul-sum add-sum mul-unit add-place add-n loop-less loop-again returns-4)

@@ -7,29 +7,14 @@ use Rattle.kind_gga.proofs.at.Tie as tie
 returns : tie.Need-returns
 unfolding ggaLayout ggaRow
 returns c =
-    rw (
-      c .before .before .before .before .before .before .before .before .maybe .ensures,
-      c .before .before .before .before .before .before .before .place .ensures,
-      c .before .before .before .before .before .before .whole-at .ensures,
-      c .before .before .before .before .before .maybe2 .ensures,
-      c .before .before .before .before .number .ensures,
-      c .before .before .before .signed .ensures,
-      c .before .before .signed2 .ensures,
-      c .before .number2 .ensures,
-      c .maybe3 .ensures,
-    )
+    rw (c .before .before .before .before .before .before .before .before .maybe .ensures)
+    (rw (c .before .before .before .before .before .before .before .place .ensures)
+    (rw (c .before .before .before .before .before .before .whole-at .ensures)
+    (rw (c .before .before .before .before .before .maybe2 .ensures, c .before .before .before .before .number .ensures)
+    (rw (c .before .before .before .signed .ensures, c .before .before .signed2 .ensures, c .before .number2 .ensures)
+    (rw (c .maybe3 .ensures))))))
 
 pub at-spec : {M : Type 1} → statement M
 at-spec =
-    tie.close
-    (tie.spec
-    (λ c κs. search needs)
-    (λ c κs. search needs)
-    (λ c κs. search needs)
-    (λ c κs. search needs)
-    (λ c κs. search needs)
-    (λ c κs. search needs)
-    (λ c κs. search needs)
-    (λ c κs. search needs)
-    (λ c κs. search needs)
-    returns)
+    tie.close (tie.spec (λ c κs. search needs) (λ c κs. search needs) (λ c κs. search needs) (λ c κs. search needs) (λ c κs. search needs)
+    (λ c κs. search needs) (λ c κs. search needs) (λ c κs. search needs) (λ c κs. search needs) returns)

@@ -70,13 +70,10 @@ unfolding ggaLayout ggaRow standardNumbers
 returns c =
     let b1 = c .before .before .before .before .before .before .before .before in
     let b2 = b1 .before .before .before .before .before .before .before .before in
-    let b3 = b2 .before .before .before .before .before .before .before .before in
-    let at-talker = b3 .before .before in
-    let s = at-talker .before in
-    let r = s .args .r in
+    let b3 = b2 .before .before .before .before .before .before .before .before in let at-talker = b3 .before .before in
+    let s = at-talker .before in let r = s .args .r in
     let f = fits s in
-    tells-by (now (s .args .out)) 1 _ _ (c .before .tell .ensures)
-    (talker-is (s .args .t) _ (at-talker .talker-number .ensures)
+    tells-by (now (s .args .out)) 1 _ _ (c .before .tell .ensures) (talker-is (s .args .t) _ (at-talker .talker-number .ensures)
     ⋮ mark-back (r .time .there)
     ⋮ wide (r .time .value) (f .0)
     ⋮ mark-back (r .place .there)
@@ -99,29 +96,7 @@ returns c =
 
 pub lay-spec : {M : Type 1} → statement M
 lay-spec =
-    tie.close
-    (tie.spec
-    (λ c κs. search needs)
-    (λ c. search needs)
-    (λ c. search needs)
-    (λ c. search needs)
-    (λ c. search needs)
-    cast-t10
-    cast-t11
-    (λ c. search needs)
-    (λ c. search needs)
-    (λ c. search needs)
-    (λ c. search needs)
-    (λ c. search needs)
-    (λ c. search needs)
-    cast-t18
-    (λ c. search needs)
-    cast-t20
-    (λ c. search needs)
-    cast-t22
-    (λ c. search needs)
-    cast-t24
-    (λ c. search needs)
-    (λ c κs. search needs)
-    (λ c. search needs)
-    returns)
+    tie.close (tie.spec (λ c κs. search needs) (λ c. search needs) (λ c. search needs) (λ c. search needs) (λ c. search needs) cast-t10
+    cast-t11 (λ c. search needs) (λ c. search needs) (λ c. search needs) (λ c. search needs) (λ c. search needs) (λ c. search needs)
+    cast-t18 (λ c. search needs) cast-t20 (λ c. search needs) cast-t22 (λ c. search needs) cast-t24 (λ c. search needs)
+    (λ c κs. search needs) (λ c. search needs) returns)

@@ -18,17 +18,11 @@ fits2 c = search needs
 returns : tie.Need-returns
 unfolding fieldsFor ggaRow
 returns c =
-    let b2 = c .before .before in
-    let b6 = b2 .before .before .before .before in
-    let b10 = b6 .before .before .before .before in
-    let b14 = b10 .before .before .before .before in
-    let b19 = b14 .before .before .before .before .before in
-    let b23 = b19 .before .before .before .before in
-    let b28 = b23 .before .before .before .before .before in
-    let b32 = b28 .before .before .before .before in
-    let b36 = b32 .before .before .before .before in
-    let b40 = b36 .before .before .before .before in
-    let b44 = b40 .before .before .before .before in
+    let b2 = c .before .before in let b6 = b2 .before .before .before .before in let b10 = b6 .before .before .before .before in
+    let b14 = b10 .before .before .before .before in let b19 = b14 .before .before .before .before .before in
+    let b23 = b19 .before .before .before .before in let b28 = b23 .before .before .before .before .before in
+    let b32 = b28 .before .before .before .before in let b36 = b32 .before .before .before .before in
+    let b40 = b36 .before .before .before .before in let b44 = b40 .before .before .before .before in
     let b47 = b44 .before .before .before in
     b44 .time .ensures then b40 .place .ensures then b36 .one .ensures then b32 .two .ensures then b28 .number .ensures
     then (rw (toZ-ofZ {w = w32} {z = b47 .args .r .altitude .value} (fits1 (b47))) at (b23 .height .ensures))
@@ -40,18 +34,6 @@ same-length c = fields-kept (returns c)
 
 pub put-fields-spec : {M : Type 1} → statement M
 put-fields-spec =
-    tie.close
-    (tie.spec
-    (λ c κs. search needs)
-    (λ c κs. search needs)
-    (λ c κs. search needs)
-    (λ c κs. search needs)
-    (λ c κs. search needs)
-    (λ c κs. search needs)
-    (λ c κs. search needs)
-    (λ c κs. search needs)
-    (λ c κs. search needs)
-    (λ c κs. search needs)
-    (λ c κs. search needs)
-    same-length
-    returns)
+    tie.close (tie.spec (λ c κs. search needs) (λ c κs. search needs) (λ c κs. search needs) (λ c κs. search needs) (λ c κs. search needs)
+    (λ c κs. search needs) (λ c κs. search needs) (λ c κs. search needs) (λ c κs. search needs) (λ c κs. search needs)
+    (λ c κs. search needs) same-length returns)

@@ -7,19 +7,9 @@ use Rattle.kind_gll.proofs.at.Tie as tie
 returns : tie.Need-returns
 unfolding gllLayout gllRow
 returns c =
-    rw (
-      c .before .before .before .place .ensures,
-      c .before .before .maybe .ensures,
-      c .before .whole-at .ensures,
-      c .whole-at2 .ensures,
-    )
+    rw (c .before .before .before .place .ensures, c .before .before .maybe .ensures, c .before .whole-at .ensures)
+    (rw (c .whole-at2 .ensures))
 
 pub at-spec : {M : Type 1} → statement M
 at-spec =
-    tie.close
-    (tie.spec
-    (λ c κs. search needs)
-    (λ c κs. search needs)
-    (λ c κs. search needs)
-    (λ c κs. search needs)
-    returns)
+    tie.close (tie.spec (λ c κs. search needs) (λ c κs. search needs) (λ c κs. search needs) (λ c κs. search needs) returns)

@@ -8,22 +8,15 @@ use Rattle.kind_gll.proofs.gll_from.Tie as tie
 returns : tie.Need-returns
 unfolding gllRow
 returns c =
-    let d = c .before in
-    let b2 = d .before .before in
-    let b3 = b2 .before in
-    let b4 = b3 .before in
+    let d = c .before in let b2 = d .before .before in let b3 = b2 .before in let b4 = b3 .before in
     tells-wrong _ _ _ _ (d .before .near4 .result) (c .refuse .ensures)
     (rw (← b4 .near .ensures, ← b3 .near2 .ensures, ← b2 .near3 .ensures, ← d .before .near4 .ensures)) (d .if1 .taken)
 
 returns-2 : tie.Need-returns-2
 unfolding gllRow
 returns-2 c =
-    let d = c .before .before in
-    let b2 = d .before .before .before in
-    let b3 = b2 .before in
-    let b4 = b3 .before in
-    let b5 = b4 .before in
-    let b6 = b5 .before in
+    let d = c .before .before in let b2 = d .before .before .before in let b3 = b2 .before in let b4 = b3 .before in
+    let b5 = b4 .before in let b6 = b5 .before in
     tells-right _ _ _ _ _ (c .before .lay .ensures) (rw (
       ← b6 .near .ensures,
       ← b5 .near2 .ensures,
@@ -33,16 +26,5 @@ returns-2 c =
 
 pub gll-from-spec : {M : Type 1} → statement M
 gll-from-spec =
-    tie.close
-    (tie.spec
-    (λ c κs. search needs)
-    (λ c κs. search needs)
-    (λ c κs. search needs)
-    (λ c κs. search needs)
-    (λ c κs. search needs)
-    returns
-    (λ c κs. search needs)
-    (λ c κs. search needs)
-    (λ c κs. search needs)
-    (λ c. search needs)
-    returns-2)
+    tie.close (tie.spec (λ c κs. search needs) (λ c κs. search needs) (λ c κs. search needs) (λ c κs. search needs) (λ c κs. search needs)
+    returns (λ c κs. search needs) (λ c κs. search needs) (λ c κs. search needs) (λ c. search needs) returns-2)

@@ -7,23 +7,11 @@ use Rattle.kind_gsa.proofs.at.Tie as tie
 returns : tie.Need-returns
 unfolding gsaLayout
 returns c =
-    rw (
-      c .before .before .before .before .before .whole-at .ensures,
-      c .before .before .before .before .whole-at2 .ensures,
-      c .before .before .before .twelve-at .ensures,
-      c .before .before .number .ensures,
-      c .before .number2 .ensures,
-      c .number3 .ensures,
-    )
+    rw (c .before .before .before .before .before .whole-at .ensures, c .before .before .before .before .whole-at2 .ensures)
+    (rw (c .before .before .before .twelve-at .ensures, c .before .before .number .ensures, c .before .number2 .ensures)
+    (rw (c .number3 .ensures)))
 
 pub at-spec : {M : Type 1} → statement M
 at-spec =
-    tie.close
-    (tie.spec
-    (λ c κs. search needs)
-    (λ c κs. search needs)
-    (λ c κs. search needs)
-    (λ c κs. search needs)
-    (λ c κs. search needs)
-    (λ c κs. search needs)
-    returns)
+    tie.close (tie.spec (λ c κs. search needs) (λ c κs. search needs) (λ c κs. search needs) (λ c κs. search needs) (λ c κs. search needs)
+    (λ c κs. search needs) returns)

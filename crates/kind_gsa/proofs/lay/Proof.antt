@@ -28,20 +28,15 @@ fits c = (search needs, search needs, search needs, search needs, search needs)
 
 returns : tie.Need-returns
 returns c =
-    let start = c .before .before in
-    let s = start .args in
+    let start = c .before .before in let s = start .args in
     let long = gsa-long (s .t) (s .r) (full start) in
     tells-full (s .out .now) 3 _ (omega (arith, long, c .before .if1 .taken)) (c .refuse .ensures)
 
 returns-2 : tie.Need-returns-2
 returns-2 c =
-    let d = c .before in
-    let b5 = d .before .before .before .before .before in
-    let b8 = b5 .before .before .before in
+    let d = c .before in let b5 = d .before .before .before .before .before in let b8 = b5 .before .before .before in
     let at-talker = b8 .before .before .before .before .before .before .before .before .before .before .before .before in
-    let start = at-talker .before .before in
-    let s = start .args in
-    let r = s .r in
+    let start = at-talker .before .before in let s = start .args in let r = s .r in
     let f = fits start in
     let room = at-talker .before .if1 .left in
     let sats = twelve-long (s .t) r (full start) in
@@ -55,38 +50,14 @@ returns-2 c =
     (b8 .lay .ensures .1 ∙ ap (λ (l : List ℤ). laid l (s .out .now)) first) (b5 .lay-twelve .ensures) in
     let front : length (gsaFirst (s .t) r ++ twelve r) ≡ 27 = omega (arith, sats) in
     let three =
-    laid-two (gsaFirst (s .t) r ++ twelve r) (gsaLast r) (s .out .now) 27 front room _ two
-    (rw last at (d .before .lay2 .ensures .1)) in
+    laid-two (gsaFirst (s .t) r ++ twelve r) (gsaLast r) (s .out .now) 27 front room _ two (rw last at (d .before .lay2 .ensures .1)) in
     tells-laid (s .out .now) 3 _ (omega (arith, long, room)) (c .bare .ensures)
     (three ∙ ap (λ (l : List ℤ). laid l (s .out .now)) (gsa-parts (s .t) r (full start)))
 
 pub lay-spec : {M : Type 1} → statement M
 lay-spec =
-    tie.close
-    (tie.spec
-    (λ c κs. search needs)
-    returns
-    (λ c κs. search needs)
-    (λ c. search needs)
-    (λ c. search needs)
-    (λ c. search needs)
-    (λ c. search needs)
-    (λ c. search needs)
-    (λ c. search needs)
-    (λ c. search needs)
-    (λ c. search needs)
-    (λ c. search needs)
-    (λ c. search needs)
-    (λ c κs. search needs)
-    (λ c. search needs)
-    (λ c. search needs)
-    (λ c. search needs)
-    (λ c κs. search needs)
-    (λ c. search needs)
-    (λ c. search needs)
-    (λ c. search needs)
-    (λ c. search needs)
-    (λ c κs. search needs)
-    (λ c κs. search needs)
-    (λ c. search needs)
-    returns-2)
+    tie.close (tie.spec (λ c κs. search needs) returns (λ c κs. search needs) (λ c. search needs) (λ c. search needs) (λ c. search needs)
+    (λ c. search needs) (λ c. search needs) (λ c. search needs) (λ c. search needs) (λ c. search needs) (λ c. search needs)
+    (λ c. search needs) (λ c κs. search needs) (λ c. search needs) (λ c. search needs) (λ c. search needs) (λ c κs. search needs)
+    (λ c. search needs) (λ c. search needs) (λ c. search needs) (λ c. search needs) (λ c κs. search needs) (λ c κs. search needs)
+    (λ c. search needs) returns-2)

@@ -14,21 +14,12 @@ fits c = search needs
 
 returns : tie.Need-returns
 returns c =
-    let s = c .before .before .before .before .before .before in
-    let v = s .args .m in
+    let s = c .before .before .before .before .before .before in let v = s .args .m in
     let f = fits s in
-    laid-by (now (s .args .out)) _ _ (c .before .lay .ensures)
-    (mark-back (v .there)
+    laid-by (now (s .args .out)) _ _ (c .before .lay .ensures) (mark-back (v .there)
     ⋮ wide (v .value) f
     ⋮ refl) .1
 
 pub lay-satellite-spec : {M : Type 1} → statement M
 lay-satellite-spec =
-    tie.close
-    (tie.spec
-    (λ c. search needs)
-    (λ c. search needs)
-    (λ c. search needs)
-    (λ c κs. search needs)
-    (λ c. search needs)
-    returns)
+    tie.close (tie.spec (λ c. search needs) (λ c. search needs) (λ c. search needs) (λ c κs. search needs) (λ c. search needs) returns)

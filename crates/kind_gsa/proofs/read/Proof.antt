@@ -22,8 +22,7 @@ returns c = tells-count _ _ _ _ _ (c .refuse .ensures) (c .before .if1 .taken)
 -- What the fields come to, part by part, is what the row says.
 by-parts : (out : List ℤ) (t : Talker) (field : ℕ → List ℕ)
     → gsaFrom out t (letter selections .got field) (exact 1 1 3 .got (λ k. field (1 + k)))
-    (twelveOf (twelveRow .got field 2)
-    (nearOf 14 (number .got (λ k. field (14 + k)) .wrong)
+    (twelveOf (twelveRow .got field 2) (nearOf 14 (number .got (λ k. field (14 + k)) .wrong)
     (nearOf 15 (number .got (λ k. field (15 + k)) .wrong) (nearOf 16 (number .got (λ k. field (16 + k)) .wrong) 0))))
     (number .got (λ k. field (14 + k))) (number .got (λ k. field (15 + k))) (number .got (λ k. field (16 + k)))
     ≡ gsaTold out t 17 field
@@ -32,18 +31,9 @@ by-parts out t field = refl
 
 returns-2 : tie.Need-returns-2
 returns-2 c =
-    let d = c .before .before in
-    let b2 = d .before .before in
-    let b3 = b2 .before in
-    let b4 = b3 .before in
-    let b5 = b4 .before in
-    let b6 = b5 .before in
-    let b7 = b6 .before in
-    let b8 = b7 .before in
-    let b9 = b8 .before in
-    let b11 = b9 .before .before in
-    tells-as (c .before .gsa-from .ensures)
-    (rw (
+    let d = c .before .before in let b2 = d .before .before in let b3 = b2 .before in let b4 = b3 .before in let b5 = b4 .before in
+    let b6 = b5 .before in let b7 = b6 .before in let b8 = b7 .before in let b9 = b8 .before in let b11 = b9 .before .before in
+    tells-as (c .before .gsa-from .ensures) (rw (
       b11 .if1 .left,
       d .before .active-in .ensures,
       b2 .near3 .ensures,
@@ -58,20 +48,6 @@ returns-2 c =
 
 pub read-spec : {M : Type 1} → statement M
 read-spec =
-    tie.close
-    (tie.spec
-    (λ c κs. search needs)
-    returns
-    (λ c. search needs)
-    (λ c κs. search needs)
-    (λ c κs. search needs)
-    (λ c κs. search needs)
-    (λ c κs. search needs)
-    (λ c κs. search needs)
-    (λ c κs. search needs)
-    (λ c κs. search needs)
-    (λ c κs. search needs)
-    (λ c κs. search needs)
-    (λ c κs. search needs)
-    (λ c. search needs)
-    returns-2)
+    tie.close (tie.spec (λ c κs. search needs) returns (λ c. search needs) (λ c κs. search needs) (λ c κs. search needs)
+    (λ c κs. search needs) (λ c κs. search needs) (λ c κs. search needs) (λ c κs. search needs) (λ c κs. search needs)
+    (λ c κs. search needs) (λ c κs. search needs) (λ c κs. search needs) (λ c. search needs) returns-2)

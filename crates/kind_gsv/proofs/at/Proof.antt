@@ -7,21 +7,10 @@ use Rattle.kind_gsv.proofs.at.Tie as tie
 returns : tie.Need-returns
 unfolding gsvLayout
 returns c =
-    rw (
-      c .before .before .before .before .whole-at .ensures,
-      c .before .before .before .whole-at2 .ensures,
-      c .before .before .whole-at3 .ensures,
-      c .before .whole-at4 .ensures,
-      c .four .ensures,
-    )
+    rw (c .before .before .before .before .whole-at .ensures, c .before .before .before .whole-at2 .ensures)
+    (rw (c .before .before .whole-at3 .ensures, c .before .whole-at4 .ensures, c .four .ensures))
 
 pub at-spec : {M : Type 1} → statement M
 at-spec =
-    tie.close
-    (tie.spec
-    (λ c κs. search needs)
-    (λ c κs. search needs)
-    (λ c κs. search needs)
-    (λ c κs. search needs)
-    (λ c κs. search needs)
+    tie.close (tie.spec (λ c κs. search needs) (λ c κs. search needs) (λ c κs. search needs) (λ c κs. search needs) (λ c κs. search needs)
     returns)

@@ -20,23 +20,15 @@ returns-3 c = rw (eq-eqb _ _ (c .before .before .if1 .left), eq-eqb _ _ (c .befo
 returns-4 : tie.Need-returns-4
 unfolding firstOf
 returns-4 c =
-    let b2 = c .before .before in
-    let b3 = b2 .before in
+    let b2 = c .before .before in let b3 = b2 .before in
     rw (eq-eqb _ _ (b3 .if1 .left), eq-eqb _ _ (b2 .if2 .left), eq-eqb _ _ (c .before .if3 .left), ne-eqb _ _ (c .if4 .taken))
 
 returns-5 : tie.Need-returns-5
 unfolding firstOf
 returns-5 c =
-    let b2 = c .before .before in
-    let b3 = b2 .before in
+    let b2 = c .before .before in let b3 = b2 .before in
     rw (eq-eqb _ _ (b3 .if1 .left), eq-eqb _ _ (b2 .if2 .left), eq-eqb _ _ (c .before .if3 .left), eq-eqb _ _ (c .if4 .left))
 
 pub first-of-spec : {M : Type 1} → statement M
 first-of-spec =
-    tie.close
-    (tie.spec
-    returns
-    returns-2
-    returns-3
-    returns-4
-    returns-5)
+    tie.close (tie.spec returns returns-2 returns-3 returns-4 returns-5)

@@ -5,19 +5,9 @@ use Rattle.kind_gsv.proofs.four.Tie as tie
 
 returns : tie.Need-returns
 returns c =
-    rw (
-      c .before .before .before .entry-at .ensures,
-      c .before .before .entry-at2 .ensures,
-      c .before .entry-at3 .ensures,
-      c .entry-at4 .ensures,
-    )
+    rw (c .before .before .before .entry-at .ensures, c .before .before .entry-at2 .ensures, c .before .entry-at3 .ensures)
+    (rw (c .entry-at4 .ensures))
 
 pub four-spec : {M : Type 1} → statement M
 four-spec =
-    tie.close
-    (tie.spec
-    (λ c κs. search needs)
-    (λ c κs. search needs)
-    (λ c κs. search needs)
-    (λ c κs. search needs)
-    returns)
+    tie.close (tie.spec (λ c κs. search needs) (λ c κs. search needs) (λ c κs. search needs) (λ c κs. search needs) returns)

@@ -27,18 +27,15 @@ fits c = (search needs, search needs, search needs, search needs)
 
 returns : tie.Need-returns
 returns c =
-    let start = c .before .before in
-    let s = start .args in
+    let start = c .before .before in let s = start .args in
     let long = gsv-long (s .t) (s .r) (full start) in
     tells-full (s .out .now) 4 _ (omega (arith, long, c .before .if1 .taken)) (c .refuse .ensures)
 
 returns-2 : tie.Need-returns-2
 returns-2 c =
     let b5 = c .before .before .before .before .before in
-    let at-talker = b5 .before .before .before .before .before .before .before .before in
-    let start = at-talker .before .before in
-    let s = start .args in
-    let r = s .r in
+    let at-talker = b5 .before .before .before .before .before .before .before .before in let start = at-talker .before .before in
+    let s = start .args in let r = s .r in
     let f = fits start in
     let room = at-talker .before .if1 .left in
     let first =
@@ -53,22 +50,6 @@ returns-2 c =
 
 pub lay-spec : {M : Type 1} → statement M
 lay-spec =
-    tie.close
-    (tie.spec
-    (λ c κs. search needs)
-    returns
-    (λ c κs. search needs)
-    (λ c. search needs)
-    (λ c. search needs)
-    (λ c. search needs)
-    (λ c. search needs)
-    (λ c. search needs)
-    (λ c. search needs)
-    (λ c κs. search needs)
-    (λ c. search needs)
-    (λ c. search needs)
-    (λ c. search needs)
-    (λ c κs. search needs)
-    (λ c κs. search needs)
-    (λ c. search needs)
-    returns-2)
+    tie.close (tie.spec (λ c κs. search needs) returns (λ c κs. search needs) (λ c. search needs) (λ c. search needs) (λ c. search needs)
+    (λ c. search needs) (λ c. search needs) (λ c. search needs) (λ c κs. search needs) (λ c. search needs) (λ c. search needs)
+    (λ c. search needs) (λ c κs. search needs) (λ c κs. search needs) (λ c. search needs) returns-2)

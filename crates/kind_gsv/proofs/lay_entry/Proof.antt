@@ -18,12 +18,10 @@ fits c = (search needs, search needs, search needs, search needs)
 
 returns : tie.Need-returns
 returns c =
-    let b1 = c .before .before .before .before .before .before .before .before in
-    let s = b1 .before .before .before in
+    let b1 = c .before .before .before .before .before .before .before .before in let s = b1 .before .before .before in
     let v = s .args .e in
     let f = fits s in
-    laid-by (now (s .args .out)) _ _ (c .before .lay .ensures)
-    (wide (v .number) (f .0)
+    laid-by (now (s .args .out)) _ _ (c .before .lay .ensures) (wide (v .number) (f .0)
     ⋮ mark-back (v .elevation .there)
     ⋮ wide (v .elevation .value) (f .1)
     ⋮ mark-back (v .azimuth .there)
@@ -34,16 +32,5 @@ returns c =
 
 pub lay-entry-spec : {M : Type 1} → statement M
 lay-entry-spec =
-    tie.close
-    (tie.spec
-    (λ c. search needs)
-    (λ c. search needs)
-    (λ c. search needs)
-    (λ c. search needs)
-    (λ c. search needs)
-    (λ c. search needs)
-    (λ c. search needs)
-    (λ c. search needs)
-    (λ c κs. search needs)
-    (λ c. search needs)
-    returns)
+    tie.close (tie.spec (λ c. search needs) (λ c. search needs) (λ c. search needs) (λ c. search needs) (λ c. search needs)
+    (λ c. search needs) (λ c. search needs) (λ c. search needs) (λ c κs. search needs) (λ c. search needs) returns)

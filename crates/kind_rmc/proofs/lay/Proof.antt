@@ -79,12 +79,10 @@ unfolding rmcLayout rmcRow standardNumbers
 returns c =
     let b1 = c .before .before .before .before .before .before .before .before in
     let b2 = b1 .before .before .before .before .before .before .before .before in
-    let at-talker = b2 .before .before .before .before .before .before .before .before in
-    let s = at-talker .before in
+    let at-talker = b2 .before .before .before .before .before .before .before .before in let s = at-talker .before in
     let r = s .args .r in
     let f = fits s in
-    tells-by (now (s .args .out)) 5 _ _ (c .before .tell .ensures)
-    (talker-is (s .args .t) _ (at-talker .talker-number .ensures)
+    tells-by (now (s .args .out)) 5 _ _ (c .before .tell .ensures) (talker-is (s .args .t) _ (at-talker .talker-number .ensures)
     ⋮ mark-back (r .time .there)
     ⋮ wide (r .time .value) (f .0)
     ⋮ wide (r .status) (f .1)
@@ -106,28 +104,7 @@ returns c =
 
 pub lay-spec : {M : Type 1} → statement M
 lay-spec =
-    tie.close
-    (tie.spec
-    (λ c κs. search needs)
-    (λ c. search needs)
-    (λ c. search needs)
-    (λ c. search needs)
-    (λ c. search needs)
-    (λ c. search needs)
-    cast-t11
-    cast-t12
-    (λ c. search needs)
-    (λ c. search needs)
-    (λ c. search needs)
-    (λ c. search needs)
-    (λ c. search needs)
-    cast-t18
-    cast-t19
-    cast-t20
-    (λ c. search needs)
-    cast-t22
-    cast-t23
-    (λ c. search needs)
-    (λ c κs. search needs)
-    (λ c. search needs)
-    returns)
+    tie.close (tie.spec (λ c κs. search needs) (λ c. search needs) (λ c. search needs) (λ c. search needs) (λ c. search needs)
+    (λ c. search needs) cast-t11 cast-t12 (λ c. search needs) (λ c. search needs) (λ c. search needs) (λ c. search needs)
+    (λ c. search needs) cast-t18 cast-t19 cast-t20 (λ c. search needs) cast-t22 cast-t23 (λ c. search needs) (λ c κs. search needs)
+    (λ c. search needs) returns)

@@ -8,16 +8,9 @@ use Rattle.kind_rmc.proofs.rmc_from.Tie as tie
 returns : tie.Need-returns
 unfolding rmcRow
 returns c =
-    let d = c .before in
-    let b2 = d .before .before in
-    let b3 = b2 .before in
-    let b4 = b3 .before in
-    let b5 = b4 .before in
-    let b6 = b5 .before in
-    let b7 = b6 .before in
-    let b8 = b7 .before in
-    tells-wrong _ _ _ _ (d .before .near8 .result) (c .refuse .ensures)
-    (rw (
+    let d = c .before in let b2 = d .before .before in let b3 = b2 .before in let b4 = b3 .before in let b5 = b4 .before in
+    let b6 = b5 .before in let b7 = b6 .before in let b8 = b7 .before in
+    tells-wrong _ _ _ _ (d .before .near8 .result) (c .refuse .ensures) (rw (
       ← b8 .near .ensures,
       ← b7 .near2 .ensures,
       ← b6 .near3 .ensures,
@@ -31,20 +24,9 @@ returns c =
 returns-2 : tie.Need-returns-2
 unfolding rmcRow
 returns-2 c =
-    let d = c .before .before in
-    let b2 = d .before .before in
-    let b3 = b2 .before in
-    let b4 = b3 .before in
-    let b5 = b4 .before in
-    let b6 = b5 .before .before in
-    let b7 = b6 .before in
-    let b8 = b7 .before in
-    let b9 = b8 .before in
-    let b10 = b9 .before in
-    let b11 = b10 .before in
-    let b12 = b11 .before in
-    let b13 = b12 .before in
-    let b14 = b13 .before in
+    let d = c .before .before in let b2 = d .before .before in let b3 = b2 .before in let b4 = b3 .before in let b5 = b4 .before in
+    let b6 = b5 .before .before in let b7 = b6 .before in let b8 = b7 .before in let b9 = b8 .before in let b10 = b9 .before in
+    let b11 = b10 .before in let b12 = b11 .before in let b13 = b12 .before in let b14 = b13 .before in
     tells-right _ _ _ _ _ (c .before .lay .ensures) (rw (
       ← b14 .near .ensures,
       ← b13 .near2 .ensures,
@@ -59,24 +41,7 @@ returns-2 c =
 
 pub rmc-from-spec : {M : Type 1} → statement M
 rmc-from-spec =
-    tie.close
-    (tie.spec
-    (λ c κs. search needs)
-    (λ c κs. search needs)
-    (λ c κs. search needs)
-    (λ c κs. search needs)
-    (λ c κs. search needs)
-    (λ c κs. search needs)
-    (λ c κs. search needs)
-    (λ c κs. search needs)
-    (λ c κs. search needs)
-    returns
-    (λ c κs. search needs)
-    (λ c κs. search needs)
-    (λ c κs. search needs)
-    (λ c κs. search needs)
-    (λ c κs. search needs)
-    (λ c κs. search needs)
-    (λ c κs. search needs)
-    (λ c. search needs)
-    returns-2)
+    tie.close (tie.spec (λ c κs. search needs) (λ c κs. search needs) (λ c κs. search needs) (λ c κs. search needs) (λ c κs. search needs)
+    (λ c κs. search needs) (λ c κs. search needs) (λ c κs. search needs) (λ c κs. search needs) returns (λ c κs. search needs)
+    (λ c κs. search needs) (λ c κs. search needs) (λ c κs. search needs) (λ c κs. search needs) (λ c κs. search needs)
+    (λ c κs. search needs) (λ c. search needs) returns-2)

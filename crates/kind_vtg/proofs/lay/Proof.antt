@@ -24,12 +24,9 @@ returns : tie.Need-returns
 unfolding vtgLayout vtgRow standardNumbers
 returns c =
     let b1 = c .before .before .before .before .before .before .before .before in
-    let at-talker = b1 .before .before .before .before .before in
-    let s = at-talker .before in
-    let r = s .args .r in
+    let at-talker = b1 .before .before .before .before .before in let s = at-talker .before in let r = s .args .r in
     let f = fits s in
-    tells-by (now (s .args .out)) 6 _ _ (c .before .tell .ensures)
-    (talker-is (s .args .t) _ (at-talker .talker-number .ensures)
+    tells-by (now (s .args .out)) 6 _ _ (c .before .tell .ensures) (talker-is (s .args .t) _ (at-talker .talker-number .ensures)
     ⋮ mark-back (r .course .there)
     ⋮ wide (r .course .value) (f .0)
     ⋮ mark-back (r .magnetic .there)
@@ -43,20 +40,6 @@ returns c =
 
 pub lay-spec : {M : Type 1} → statement M
 lay-spec =
-    tie.close
-    (tie.spec
-    (λ c κs. search needs)
-    (λ c. search needs)
-    (λ c. search needs)
-    (λ c. search needs)
-    (λ c. search needs)
-    (λ c. search needs)
-    (λ c. search needs)
-    (λ c. search needs)
-    (λ c. search needs)
-    (λ c. search needs)
-    (λ c. search needs)
-    (λ c. search needs)
-    (λ c κs. search needs)
-    (λ c. search needs)
-    returns)
+    tie.close (tie.spec (λ c κs. search needs) (λ c. search needs) (λ c. search needs) (λ c. search needs) (λ c. search needs)
+    (λ c. search needs) (λ c. search needs) (λ c. search needs) (λ c. search needs) (λ c. search needs) (λ c. search needs)
+    (λ c. search needs) (λ c κs. search needs) (λ c. search needs) returns)

@@ -15,28 +15,11 @@ fits1 c = search needs
 returns : tie.Need-returns
 unfolding faultBy zdaRow
 returns c =
-    let b2 = c .before .before in
-    let b3 = b2 .before in
-    let b4 = b3 .before in
-    let b5 = b4 .before in
-    let b7 = b5 .before .before in
-    c .near3 .ensures ∙ rw (
-      c .before .maybe .ensures,
-      b2 .near2 .ensures,
-      b3 .three .ensures,
-      b4 .near .ensures,
-      b5 .signed .ensures,
-      toZ-ofZ {w = w32} {z = b7 .args .r .zone .minutes} (fits1 (b7)),
-    )
+    let b2 = c .before .before in let b3 = b2 .before in let b4 = b3 .before in let b5 = b4 .before in let b7 = b5 .before .before in
+    c .near3 .ensures ∙ rw (c .before .maybe .ensures, b2 .near2 .ensures, b3 .three .ensures, b4 .near .ensures, b5 .signed .ensures)
+    (rw (toZ-ofZ {w = w32} {z = b7 .args .r .zone .minutes} (fits1 (b7))))
 
 pub wrong-spec : {M : Type 1} → statement M
 wrong-spec =
-    tie.close
-    (tie.spec
-    (λ c κs. search needs)
-    (λ c κs. search needs)
-    (λ c κs. search needs)
-    (λ c κs. search needs)
-    (λ c κs. search needs)
-    (λ c κs. search needs)
-    returns)
+    tie.close (tie.spec (λ c κs. search needs) (λ c κs. search needs) (λ c κs. search needs) (λ c κs. search needs) (λ c κs. search needs)
+    (λ c κs. search needs) returns)

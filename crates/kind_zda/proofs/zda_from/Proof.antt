@@ -8,36 +8,19 @@ use Rattle.kind_zda.proofs.zda_from.Tie as tie
 returns : tie.Need-returns
 unfolding zdaRow
 returns c =
-    let d = c .before in
-    let b2 = d .before .before in
-    let b3 = b2 .before in
+    let d = c .before in let b2 = d .before .before in let b3 = b2 .before in
     tells-wrong _ _ _ _ (d .before .near3 .result) (c .refuse .ensures)
     (rw (← b3 .near .ensures, ← b2 .near2 .ensures, ← d .before .near3 .ensures)) (d .if1 .taken)
 
 returns-2 : tie.Need-returns-2
 unfolding zdaRow
 returns-2 c =
-    let d = c .before .before in
-    let b2 = d .before .before in
-    let b3 = b2 .before .before in
-    let b4 = b3 .before in
-    let b5 = b4 .before in
-    let b6 = b5 .before in
+    let d = c .before .before in let b2 = d .before .before in let b3 = b2 .before .before in let b4 = b3 .before in
+    let b5 = b4 .before in let b6 = b5 .before in
     tells-right _ _ _ _ _ (c .before .lay .ensures) (rw (← b6 .near .ensures, ← b5 .near2 .ensures, ← b4 .near3 .ensures) (b3 .if1 .left))
     (rw (b2 .kept .ensures, d .before .dated .ensures, d .zoned .ensures))
 
 pub zda-from-spec : {M : Type 1} → statement M
 zda-from-spec =
-    tie.close
-    (tie.spec
-    (λ c κs. search needs)
-    (λ c κs. search needs)
-    (λ c κs. search needs)
-    (λ c κs. search needs)
-    returns
-    (λ c κs. search needs)
-    (λ c κs. search needs)
-    (λ c κs. search needs)
-    (λ c κs. search needs)
-    (λ c. search needs)
-    returns-2)
+    tie.close (tie.spec (λ c κs. search needs) (λ c κs. search needs) (λ c κs. search needs) (λ c κs. search needs) returns
+    (λ c κs. search needs) (λ c κs. search needs) (λ c κs. search needs) (λ c κs. search needs) (λ c. search needs) returns-2)

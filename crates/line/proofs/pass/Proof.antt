@@ -48,22 +48,17 @@ end-gives-requires c κs = let l = long (c .before .before .before .before .befo
 
 same-length : tie.Need-same-length
 same-length c =
-    let d = c .before .before .before .before .before in
-    let a = d .before .before .before .before .before .before .before .args in
+    let d = c .before .before .before .before .before in let a = d .before .before .before .before .before .before .before .args in
     let ends = d .scan .ensures .1 .1 in
     sets-same (a .ends .now) _ (endsFrom 0 (bodyOf (a .line .now))) (rw body-part at ends)
 
 returns-2 : tie.Need-returns-2
 returns-2 c =
-    let d = c .before .before .before .before .before in
-    let b = d .before .before .before in
+    let d = c .before .before .before .before .before in let b = d .before .before .before in
     let l = b .before .before .before .before .args .line .now in
     let e = has-edges b in
-    let good = d .scan .ensures .0 .0 in
-    let xor = d .scan .ensures .0 .1 in
-    let count = d .scan .ensures .1 .0 in
-    let ends = d .scan .ensures .1 .1 in
-    let gives = c .before .end-gives .ensures in
+    let good = d .scan .ensures .0 .0 in let xor = d .scan .ensures .0 .1 in let count = d .scan .ensures .1 .0 in
+    let ends = d .scan .ensures .1 .1 in let gives = c .before .end-gives .ensures in
     let said : c .judged .result ≡ lineRefusal l = c .judged .ensures
     ∙ rw (rw body-part at good, rw rest at gives, rw body-part at xor) (sym (line-edges l e)) in
     (ap₂ answer said (rw (ends-there l e) (rw body-part at count)), rw (ends-there l e) (rw body-part at ends))

@@ -16,8 +16,7 @@ use Rattle.line.proofs.scan.Statement.{statement}
 use Rattle.line.proofs.scan.Tie as tie
 
 abbrev Inv-loop : tie.InvT-loop
-Inv-loop s p₀ good₀ xor₀ n₀ i₀ p good xor n i =
-    (i ≤ length s) × (bodyBytes s ≡ (good && bodyBytes (drop i s)))
+Inv-loop s p₀ good₀ xor₀ n₀ i₀ p good xor n i = (i ≤ length s) × (bodyBytes s ≡ (good && bodyBytes (drop i s)))
     × (xorOf s ≡ xorFrom xor (drop i s)) × (n ≤ i) × (length p ≡ length p₀)
     × (n + length (endsFrom i (drop i s)) ≡ length (endsFrom 0 s)) × (sets p n (endsFrom i (drop i s)) ≡ sets p₀ 0 (endsFrom 0 s))
 
@@ -30,10 +29,7 @@ loop-holds c = (omega arith, refl, refl, omega arith, refl, omega arith, refl)
 
 loop-again : tie.Need-loop-again Inv-loop μ-loop
 loop-again c =
-    let b4 = c .before .before .before .before in
-    let a = b4 .before .before .before .args in
-    let s = a .s .now in
-    let l = b4 .loop in
+    let b4 = c .before .before .before .before in let a = b4 .before .before .before .args in let s = a .s .now in let l = b4 .loop in
     let h = c .before .before .before .loop-test .taken in
     let t = sym (c .before .is-plain .ensures) ∙ c .if1 .taken in
     let o = plain-no-comma (getD s (l .i) 0) t in (
@@ -49,9 +45,7 @@ loop-again c =
 loop-again-2 : tie.Need-loop-again-2 Inv-loop μ-loop
 loop-again-2 c =
     let b2 = c .before .before in let b4 = b2 .before .before in let b9 = b4 .before .before .before .before .before in
-    let a = b9 .before .before .before .args in
-    let s = a .s .now in
-    let l = b9 .loop in
+    let a = b9 .before .before .before .args in let s = a .s .now in let l = b9 .loop in
     let h = b4 .before .before .before .before .loop-test .taken in
     let e = b2 .store .ensures in (
       omega arith,
@@ -65,15 +59,12 @@ loop-again-2 c =
 
 same-length : tie.Need-same-length Inv-loop μ-loop
 same-length c =
-    let b2 = c .before .before in
-    let l = b2 .before .before .before .loop in
+    let b2 = c .before .before in let l = b2 .before .before .before .loop in
     set-same (l .p) _ (b2 .before .before .before .before .before .before .args .p .now) (l .n) (l .i) (b2 .store2 .ensures) (l .inv .4)
 
 returns : tie.Need-returns Inv-loop μ-loop
 returns c =
-    let b2 = c .before .before in
-    let b4 = b2 .before .before in
-    let s = b4 .before .before .before .before .args .s .now in
+    let b2 = c .before .before in let b4 = b2 .before .before in let s = b4 .before .before .before .before .args .s .now in
     let l = b4 .before .loop in
     let h = b4 .loop-test .left in (
       (sym (l .inv .1 ∙ good-end _ _ h _), sym (l .inv .2 ∙ xor-end _ _ h _)),

@@ -13,18 +13,5 @@ abbrev μ-loop : tie.MeasureT-loop
 
 pub list-all-spec : {M : Type 1} → statement M
 list-all-spec =
-    tie.close
-    (tie.spec
-    Inv-loop
-    μ-loop
-    (λ c. (refl, refl))
-    (λ c κs. tt)
-    (λ c. omega arith)
-    (λ c. omega arith)
-    (λ c. tt)
-    (λ c. omega arith)
-    (λ c. omega arith)
-    (λ c. (omega arith, omega arith))
-    (λ c. omega arith)
-    (λ c. omega arith)
-    (λ c. tt))
+    tie.close (tie.spec Inv-loop μ-loop (λ c. (refl, refl)) (λ c κs. tt) (λ c. omega arith) (λ c. omega arith) (λ c. tt)
+    (λ c. omega arith) (λ c. omega arith) (λ c. (omega arith, omega arith)) (λ c. omega arith) (λ c. omega arith) (λ c. tt))

@@ -15,23 +15,13 @@ use Rattle.listing.proofs.list_line.Tie as tie
 
 returns : tie.Need-returns
 returns c =
-    let b6 = c .before .before .before .before .before .before in
-    let a = b6 .before .before .before .before .args in
+    let b6 = c .before .before .before .before .before .before in let a = b6 .before .before .before .before .args in
     let zeros = replicate 33 (pos 0) in
     let line = a .line .now in
-    as-text
-    (ap (λ (t : Told). toldRow (a .number) line t (b6 .read .last .1 .0) (a .dumps)) (b6 .read .ensures .0)
+    as-text (ap (λ (t : Told). toldRow (a .number) line t (b6 .read .last .1 .0) (a .dumps)) (b6 .read .ensures .0)
     ∙ (ap (λ (l : List ℤ). toldRow (a .number) line (toldFor (readLine line) zeros) l (a .dumps)) (b6 .read .ensures .1)
-    ∙ row-is (a .number) line (readLine line) zeros (a .dumps) refl))
-    (c .before .before .put-row .ensures)
+    ∙ row-is (a .number) line (readLine line) zeros (a .dumps) refl)) (c .before .before .put-row .ensures)
 
 pub list-line-spec : {M : Type 1} → statement M
 list-line-spec =
-    tie.close
-    (tie.spec
-    (λ c. search needs)
-    (λ c κs. search needs)
-    (λ c. search needs)
-    (λ c κs. search needs)
-    (λ c. search needs)
-    returns)
+    tie.close (tie.spec (λ c. search needs) (λ c κs. search needs) (λ c. search needs) (λ c κs. search needs) (λ c. search needs) returns)

@@ -58,8 +58,7 @@ mul-t11 c = omega arith
 
 slice-set-from-out : tie.Need-slice-set-from-out Inv-loop μ-loop
 slice-set-from-out c =
-    let s = c .before .before .before .before .args in
-    let l = c .before .before .loop in
+    let s = c .before .before .before .before .args in let l = c .before .before .loop in
     rw (l .inv .2) (less (s .out .now) (s .values .now) (l .i) (l .inv .1) (c .before .loop-test .taken))
 
 add-i : tie.Need-add-i Inv-loop μ-loop
@@ -70,23 +69,19 @@ loop-less c = omega arith
 
 loop-again : tie.Need-loop-again Inv-loop μ-loop
 loop-again c =
-    let o = c .before .before .before .before .args .out .now in
-    let v = c .before .before .before .before .args .values .now in
-    let l = c .before .before .loop in
-    let h = c .before .loop-test .taken in
+    let o = c .before .before .before .before .args .out .now in let v = c .before .before .before .before .args .values .now in
+    let l = c .before .before .loop in let h = c .before .loop-test .taken in
     (omega (arith, h), l .inv .1, rw (l .inv .2, add-one (l .i)) (next o v (l .i) (search needs) (l .inv .1) h))
 
 same-length : tie.Need-same-length Inv-loop μ-loop
 same-length c =
-    let s = c .before .before .before .args in
-    let l = c .before .loop in
+    let s = c .before .before .before .args in let l = c .before .loop in
     rw (l .inv .2) (length-paste (s .out .now) 0 (s .values .now) (l .i) (omega (arith, l .inv .0, l .inv .1)) (l .inv .0))
 
 returns-2 : tie.Need-returns-2 Inv-loop μ-loop
 unfolding laid
 returns-2 c =
-    let o = c .before .before .before .args .out .now in
-    let v = c .before .before .before .args .values .now in
+    let o = c .before .before .before .args .out .now in let v = c .before .before .before .args .values .now in
     let l = c .before .loop in
     let e = le-leb (length v) (length o) (l .inv .1) in
     let all : l .i ≡ length v = omega (arith, l .inv .0, c .loop-test .left) in
@@ -94,18 +89,5 @@ returns-2 c =
 
 pub lay-spec : {M : Type 1} → statement M
 lay-spec =
-    tie.close
-    (tie.spec
-    Inv-loop
-    μ-loop
-    returns
-    loop-holds
-    mul-out
-    shared-slice-copy-out-out
-    mul-t11
-    slice-set-from-out
-    add-i
-    loop-less
-    loop-again
-    same-length
-    returns-2)
+    tie.close (tie.spec Inv-loop μ-loop returns loop-holds mul-out shared-slice-copy-out-out mul-t11 slice-set-from-out add-i loop-less
+    loop-again same-length returns-2)

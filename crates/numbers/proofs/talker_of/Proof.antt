@@ -11,33 +11,20 @@ returns-2 c = rw (ne-eqb (c .before .before .args .n) 0 (c .before .if1 .left), 
 
 returns-3 : tie.Need-returns-3
 returns-3 c =
-    let b2 = c .before .before in
-    let b3 = b2 .before in
+    let b2 = c .before .before in let b3 = b2 .before in
     rw (ne-eqb (b3 .args .n) 0 (b2 .if1 .left), ne-eqb (b3 .args .n) 1 (c .before .if2 .left), eq-eqb (b3 .args .n) 2 (c .if3 .taken))
 
 returns-4 : tie.Need-returns-4
 returns-4 c =
-    let b2 = c .before .before in
-    let b3 = b2 .before in
-    let b4 = b3 .before in
-    rw (
-      ne-eqb (b4 .args .n) 0 (b3 .if1 .left),
-      ne-eqb (b4 .args .n) 1 (b2 .if2 .left),
-      ne-eqb (b4 .args .n) 2 (c .before .if3 .left),
-      eq-eqb (b4 .args .n) 3 (c .if4 .taken),
-    )
+    let b2 = c .before .before in let b3 = b2 .before in let b4 = b3 .before in
+    rw (ne-eqb (b4 .args .n) 0 (b3 .if1 .left), ne-eqb (b4 .args .n) 1 (b2 .if2 .left), ne-eqb (b4 .args .n) 2 (c .before .if3 .left))
+    (rw (eq-eqb (b4 .args .n) 3 (c .if4 .taken)))
 
 returns-5 : tie.Need-returns-5
 returns-5 c =
-    let b2 = c .before .before in
-    let b3 = b2 .before in
-    let b4 = b3 .before in
-    rw (
-      ne-eqb (b4 .args .n) 0 (b3 .if1 .left),
-      ne-eqb (b4 .args .n) 1 (b2 .if2 .left),
-      ne-eqb (b4 .args .n) 2 (c .before .if3 .left),
-      ne-eqb (b4 .args .n) 3 (c .if4 .left),
-    )
+    let b2 = c .before .before in let b3 = b2 .before in let b4 = b3 .before in
+    rw (ne-eqb (b4 .args .n) 0 (b3 .if1 .left), ne-eqb (b4 .args .n) 1 (b2 .if2 .left), ne-eqb (b4 .args .n) 2 (c .before .if3 .left))
+    (rw (ne-eqb (b4 .args .n) 3 (c .if4 .left)))
 
 pub talker-of-spec : {M : Type 1} → statement M
 talker-of-spec = tie.close (tie.spec returns returns-2 returns-3 returns-4 returns-5)

@@ -20,8 +20,7 @@ is-whole-requires c κs = search needs
 
 cast-result : tie.Need-cast-result
 cast-result c =
-    rw (toZ-ofZ (fits (c .before .before)))
-    (whole-fits (c .before .before .args .n) (sym (tested (c .before)) ∙ c .if1 .taken))
+    rw (toZ-ofZ (fits (c .before .before))) (whole-fits (c .before .before .args .n) (sym (tested (c .before)) ∙ c .if1 .taken))
 
 returns : tie.Need-returns
 unfolding wholeOf

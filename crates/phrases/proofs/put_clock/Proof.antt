@@ -13,11 +13,5 @@ returns c = c .before .before .before .before .before .before .before .before .b
 
 pub put-clock-spec : {M : Type 1} → statement M
 put-clock-spec =
-    tie.close
-    (tie.spec
-    (λ c κs. search needs)
-    (λ c κs. search needs)
-    (λ c κs. search needs)
-    (λ c κs. search needs)
-    (λ c. search needs)
+    tie.close (tie.spec (λ c κs. search needs) (λ c κs. search needs) (λ c κs. search needs) (λ c κs. search needs) (λ c. search needs)
     returns)

@@ -14,11 +14,8 @@ fits c = search needs
 returns : tie.Need-returns
 unfolding zoneWords
 returns c =
-    let b2 = c .before .before in
-    let b8 = b2 .before .before .before .before .before .before in
-    let b12 = b8 .before .before .before .before in
-    let b13 = b12 .before in
-    let b17 = b13 .before .before .before .before in
+    let b2 = c .before .before in let b8 = b2 .before .before .before .before .before .before in
+    let b12 = b8 .before .before .before .before in let b13 = b12 .before in let b17 = b13 .before .before .before .before in
     let b19 = b17 .before .before in
     let e = toZ-ofZ (fits b19) in
     let n = rw e at (b17 .size .ensures) in
@@ -26,16 +23,5 @@ returns c =
 
 pub put-zone-spec : {M : Type 1} → statement M
 put-zone-spec =
-    tie.close
-    (tie.spec
-    (λ c κs. search needs)
-    (λ c. search needs)
-    (λ c. search needs)
-    (λ c κs. search needs)
-    (λ c κs. search needs)
-    (λ c κs. search needs)
-    (λ c. search needs)
-    (λ c. search needs)
-    (λ c κs. search needs)
-    (λ c. search needs)
-    returns)
+    tie.close (tie.spec (λ c κs. search needs) (λ c. search needs) (λ c. search needs) (λ c κs. search needs) (λ c κs. search needs)
+    (λ c κs. search needs) (λ c. search needs) (λ c. search needs) (λ c κs. search needs) (λ c. search needs) returns)

@@ -6,9 +6,7 @@ use Rattle.put.proofs.put_one.Tie as tie
 
 returns : tie.Need-returns
 returns c =
-    let b2 = c .before .before in
-    let b3 = b2 .before in
-    let b6 = b3 .before .before .before in
+    let b2 = c .before .before in let b3 = b2 .before in let b6 = b3 .before .before .before in
     one-digit (b6 .args .v) (rw (b3 .digit .ensures) at (b2 .put .ensures))
 
 pub put-one-spec : {M : Type 1} → statement M

@@ -6,9 +6,7 @@ use Rattle.put.proofs.put_six.Tie as tie
 
 returns : tie.Need-returns
 returns c =
-    let b2 = c .before .before in
-    let b6 = b2 .before .before .before .before in
-    let b9 = b6 .before .before .before in
+    let b2 = c .before .before in let b6 = b2 .before .before .before .before in let b9 = b6 .before .before .before in
     one-more 5 (b9 .args .v) (b6 .put-five .ensures) (b2 .put-one .ensures)
 
 pub put-six-spec : {M : Type 1} → statement M

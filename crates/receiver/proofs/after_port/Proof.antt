@@ -10,8 +10,7 @@ returns c = rw (not-true (c .before .before .args .r .rate .there) (c .if1 .take
 
 returns-2 : tie.Need-returns-2
 returns-2 c =
-    let b2 = c .before .before in
-    let b4 = b2 .before .before in
+    let b2 = c .before .before in let b4 = b2 .before .before in
     c .with-port .ensures ∙ rw (not-false (b4 .args .r .rate .there) (b2 .if1 .left), c .before .named-port .ensures)
 
 pub after-port-spec : {M : Type 1} → statement M

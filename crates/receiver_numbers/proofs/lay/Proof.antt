@@ -51,11 +51,9 @@ returns : tie.Need-returns
 unfolding settingsLayout
 returns c =
     let b1 = c .before .before .before .before .before .before .before .before in
-    let s = b1 .before .before .before .before .before .before .before .before in
-    let v = s .args .s in
+    let s = b1 .before .before .before .before .before .before .before .before in let v = s .args .s in
     let f = fits s in
-    laid-by (now (s .args .out)) _ _ (c .before .lay .ensures)
-    (wide (v .first .rate) (f .0)
+    laid-by (now (s .args .out)) _ _ (c .before .lay .ensures) (wide (v .first .rate) (f .0)
     ⋮ wide (v .first .protocol) (f .1)
     ⋮ wide (v .first .mask) (f .2)
     ⋮ wide (v .second .rate) (f .3)
@@ -70,20 +68,6 @@ returns c =
 
 pub lay-spec : {M : Type 1} → statement M
 lay-spec =
-    tie.close
-    (tie.spec
-    (λ c. search needs)
-    (λ c. search needs)
-    (λ c. search needs)
-    (λ c. search needs)
-    (λ c. search needs)
-    (λ c. search needs)
-    (λ c. search needs)
-    cast-t11
-    (λ c. search needs)
-    (λ c. search needs)
-    cast-t14
-    (λ c. search needs)
-    (λ c κs. search needs)
-    (λ c. search needs)
-    returns)
+    tie.close (tie.spec (λ c. search needs) (λ c. search needs) (λ c. search needs) (λ c. search needs) (λ c. search needs)
+    (λ c. search needs) (λ c. search needs) cast-t11 (λ c. search needs) (λ c. search needs) cast-t14 (λ c. search needs)
+    (λ c κs. search needs) (λ c. search needs) returns)

@@ -12,8 +12,7 @@ use Rattle.rows.proofs.behind.Tie as tie
 
 returns : tie.Need-returns
 returns c =
-    let s = c .before .before .args .numbers .now in
-    let n = c .before .before .args .n in
+    let s = c .before .before .args .numbers .now in let n = c .before .before .args .n in
     take-all (length s - n) (drop n s) (rw length-drop (le-refl _))
 
 returns-2 : tie.Need-returns-2
@@ -22,14 +21,5 @@ returns-2 c = sym (drop-of-length-le (c .before .before .args .numbers .now) {i 
 
 pub behind-spec : {M : Type 1} → statement M
 behind-spec =
-    tie.close
-    (tie.spec
-    (λ c. search needs)
-    (λ c. search needs)
-    (λ c. search needs)
-    (λ c. search needs)
-    returns
-    (λ c. search needs)
-    (λ c. search needs)
-    (λ c. search needs)
-    returns-2)
+    tie.close (tie.spec (λ c. search needs) (λ c. search needs) (λ c. search needs) (λ c. search needs) returns (λ c. search needs)
+    (λ c. search needs) (λ c. search needs) returns-2)

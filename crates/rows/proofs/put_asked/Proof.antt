@@ -12,11 +12,8 @@ use Rattle.rows.proofs.put_asked.Tie as tie
 
 returns : tie.Need-returns
 returns c =
-    let b3 = c .before .before .before in
-    let b5 = b3 .before .before in
-    let b7 = b5 .before .before in
-    as-text
-    (ap (λ (l : List ℤ). numbersText l) (b3 .shown-of .ensures)
+    let b3 = c .before .before .before in let b5 = b3 .before .before in let b7 = b5 .before .before in
+    as-text (ap (λ (l : List ℤ). numbersText l) (b3 .shown-of .ensures)
     ∙ ap (λ (b : Bool). askedText b (b7 .args .kind) (b7 .args .numbers .now)) (sym (b5 .if1 .taken)))
     (c .before .before .put-numbers .ensures)
 

@@ -11,8 +11,7 @@ use Rattle.rows.proofs.put_numbers.Statement.{statement}
 use Rattle.rows.proofs.put_numbers.Tie as tie
 
 abbrev Inv-loop : tie.InvT-loop
-Inv-loop out₀ at numbers place₀ i₀ out place i =
-    (i ≤ length numbers)
+Inv-loop out₀ at numbers place₀ i₀ out place i = (i ≤ length numbers)
     × ((length out ≡ length out₀) × (wrote (held place out) (numbersText (drop i numbers)) ≡ wrote (held at out₀) (numbersText numbers)))
 
 abbrev μ-loop : tie.MeasureT-loop
@@ -40,16 +39,5 @@ returns c =
 
 pub put-numbers-spec : {M : Type 1} → statement M
 put-numbers-spec =
-    tie.close
-    (tie.spec
-    Inv-loop
-    μ-loop
-    (λ c. (omega arith, (refl, refl)))
-    (λ c. search needs)
-    (λ c. omega arith)
-    (λ c κs. search needs)
-    (λ c. omega arith)
-    (λ c. omega arith)
-    loop-again
-    (λ c. c .before .loop .inv .1 .0)
-    returns)
+    tie.close (tie.spec Inv-loop μ-loop (λ c. (omega arith, (refl, refl))) (λ c. search needs) (λ c. omega arith) (λ c κs. search needs)
+    (λ c. omega arith) (λ c. omega arith) loop-again (λ c. c .before .loop .inv .1 .0) returns)

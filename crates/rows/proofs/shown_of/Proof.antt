@@ -27,5 +27,4 @@ returns-2 c =
 
 pub shown-of-spec : {M : Type 1} → statement M
 shown-of-spec =
-    tie.close
-    (tie.spec (λ c κs. search needs) (λ c κs. search needs) (λ c κs. search needs) returns returns-2)
+    tie.close (tie.spec (λ c κs. search needs) (λ c κs. search needs) (λ c κs. search needs) returns returns-2)

@@ -15,9 +15,4 @@ returns-2 c = c .known .ensures ∙ rw (c .before .talker-of .ensures, c .before
 
 pub address-at-spec : {M : Type 1} → statement M
 address-at-spec =
-    tie.close
-    (tie.spec
-    returns
-    (λ c κs. search needs)
-    (λ c κs. search needs)
-    returns-2)
+    tie.close (tie.spec returns (λ c κs. search needs) (λ c κs. search needs) returns-2)

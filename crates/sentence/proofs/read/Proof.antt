@@ -30,8 +30,7 @@ long c = passes-long _ (passes c)
 
 returns : tie.Need-returns
 returns c =
-    let b = c .before .before .before .before in
-    let l = b .before .before .before .args .line .now in
+    let b = c .before .before .before .before in let l = b .before .before .before .args .line .now in
     refused-as _ _ _ (readLine l) (c .refuse .ensures) (c .before .if1 .taken)
     (rw (number b) (sym (refused l (rw (number b) at (c .before .if1 .taken)))))
 
@@ -49,21 +48,18 @@ part-read-body-end c = let l = long (c .before) in search needs
 
 read-body-requires : tie.Need-read-body-requires
 read-body-requires c κs =
-    let b = c .before .before .before in
-    let l = b .before .before .before .before .before .before .args .line .now in
+    let b = c .before .before .before in let l = b .before .before .before .before .before .before .args .line .now in
     let e = b .before .before .before .pass .ensures in
     rw body-part (pass-placed l _ _ _ (passes b) (ap (λ (r : Passed). r .count) (e .0)) (e .1))
 
 returns-2 : tie.Need-returns-2
 returns-2 c =
-    let d = c .before in
-    let b = d .before .before .before .before in
-    let s = b .before .before .before .before .before .before .args in
+    let d = c .before in let b = d .before .before .before .before in let s = b .before .before .before .before .before .before .args in
     tells-as (d .read-body .ensures)
     (rw body-part (ap (λ (x : Sentence). handed x (s .numbers .now)) (sym (sound (s .line .now) (passes b)))))
 
 pub read-spec : {M : Type 1} → statement M
 read-spec =
     tie.close
-    (tie.spec (λ c. search needs) (λ c κs. search needs) (λ c κs. search needs) returns sub-end sub-read-body part-read-body-start part-read-body-end
-    (λ c. search needs) read-body-requires (λ c. search needs) returns-2)
+    (tie.spec (λ c. search needs) (λ c κs. search needs) (λ c κs. search needs) returns sub-end sub-read-body part-read-body-start
+    part-read-body-end (λ c. search needs) read-body-requires (λ c. search needs) returns-2)

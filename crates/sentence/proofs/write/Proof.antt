@@ -19,9 +19,7 @@ returns c =
 
 returns-2 : tie.Need-returns-2
 returns-2 c =
-    let told = c .before .before .before .before .before in
-    let known = told .before .before in
-    let tested = known .before .before in
+    let told = c .before .before .before .before .before in let known = told .before .before in let tested = known .before .before in
     let s = tested .before .before .before .args in
     let n = now (s .numbers) in
     let k = tested .before .count-of .ensures in
@@ -33,9 +31,7 @@ returns-2 c =
 
 returns-3 : tie.Need-returns-3
 returns-3 c =
-    let told = c .before .before .before .before .before in
-    let known = told .before .before in
-    let tested = known .before .before in
+    let told = c .before .before .before .before .before in let known = told .before .before in let tested = known .before .before in
     let s = tested .before .before .before .args in
     let n = now (s .numbers) in
     let k = tested .before .count-of .ensures in
@@ -47,9 +43,7 @@ returns-3 c =
 
 returns-4 : tie.Need-returns-4
 returns-4 c =
-    let told = c .before in
-    let known = told .before .before in
-    let tested = known .before .before in
+    let told = c .before in let known = told .before .before in let tested = known .before .before in
     let s = tested .before .before .before .args in
     let n = now (s .numbers) in
     let k = tested .before .count-of .ensures in
@@ -61,21 +55,6 @@ returns-4 c =
 
 pub write-spec : {M : Type 1} → statement M
 write-spec =
-    tie.close
-    (tie.spec
-    (λ c κs. search needs)
-    (λ c κs. search needs)
-    returns
-    (λ c κs. search needs)
-    (λ c κs. search needs)
-    (λ c. search needs)
-    (λ c κs. search needs)
-    (λ c. search needs)
-    (λ c κs. search needs)
-    (λ c. search needs)
-    (λ c κs. search needs)
-    (λ c. search needs)
-    returns-2
-    (λ c. search needs)
-    returns-3
-    returns-4)
+    tie.close (tie.spec (λ c κs. search needs) (λ c κs. search needs) returns (λ c κs. search needs) (λ c κs. search needs)
+    (λ c. search needs) (λ c κs. search needs) (λ c. search needs) (λ c κs. search needs) (λ c. search needs) (λ c κs. search needs)
+    (λ c. search needs) returns-2 (λ c. search needs) returns-3 returns-4)

@@ -30,12 +30,8 @@ returns c =
 
 returns-2 : tie.Need-returns-2
 returns-2 c =
-    let b4 = c .before .before .before .before in
-    let at-talker = b4 .before .before .before .before .before in
-    let start = at-talker .before .before in
-    let s = start .args in
-    let r = s .r in
-    let room = at-talker .before .if1 .left in
+    let b4 = c .before .before .before .before in let at-talker = b4 .before .before .before .before .before in
+    let start = at-talker .before .before in let s = start .args in let r = s .r in let room = at-talker .before .if1 .left in
     let small : r .count ≤ 36 = start .pre in
     let first = talker-is (s .t) _ (at-talker .talker-number .ensures) ⋮ toZ-pos w64 (r .count) (omega (arith, small)) ⋮ refl in
     let two =
@@ -47,17 +43,5 @@ returns-2 c =
 
 pub lay-spec : {M : Type 1} → statement M
 lay-spec =
-    tie.close
-    (tie.spec
-    returns
-    (λ c κs. search needs)
-    (λ c. search needs)
-    (λ c. search needs)
-    (λ c. search needs)
-    (λ c κs. search needs)
-    (λ c. search needs)
-    (λ c. search needs)
-    (λ c. search needs)
-    (λ c κs. search needs)
-    (λ c. search needs)
-    returns-2)
+    tie.close (tie.spec returns (λ c κs. search needs) (λ c. search needs) (λ c. search needs) (λ c. search needs) (λ c κs. search needs)
+    (λ c. search needs) (λ c. search needs) (λ c. search needs) (λ c κs. search needs) (λ c. search needs) returns-2)

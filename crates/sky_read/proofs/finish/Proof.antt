@@ -11,9 +11,7 @@ returns c = c .refuse .ensures ∙ rw (not-true (c .before .before .before .args
 
 returns-2 : tie.Need-returns-2
 returns-2 c =
-    let b3 = c .before .before .before in
-    let b5 = b3 .before .before in
-    let args = b5 .args in
+    let b3 = c .before .before .before in let b5 = b3 .before .before in let args = b5 .args in
     c .refuse2 .ensures ∙ rw (
       not-false (args .head .begun) (b3 .if1 .left),
       ne-eqb (args .head .lines + 1) (args .k) (c .before .if2 .taken),
@@ -21,20 +19,10 @@ returns-2 c =
 
 returns-3 : tie.Need-returns-3
 returns-3 c =
-    let b3 = c .before .before .before in
-    let b5 = b3 .before .before in
-    let args = b5 .args in
+    let b3 = c .before .before .before in let b5 = b3 .before .before in let args = b5 .args in
     rw (not-false (args .head .begun) (b3 .if1 .left), eq-eqb (args .head .lines + 1) (args .k) (c .before .if2 .left))
 
 pub finish-spec : {M : Type 1} → statement M
 finish-spec =
-    tie.close
-    (tie.spec
-    (λ c κs. search needs)
-    returns
-    (λ c. search needs)
-    (λ c. search needs)
-    (λ c κs. search needs)
-    returns-2
-    (λ c. search needs)
-    returns-3)
+    tie.close (tie.spec (λ c κs. search needs) returns (λ c. search needs) (λ c. search needs) (λ c κs. search needs) returns-2
+    (λ c. search needs) returns-3)

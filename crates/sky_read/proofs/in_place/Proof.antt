@@ -10,9 +10,7 @@ use Rattle.sky_read.proofs.StepLaws.{in-place-is}
 
 returns : tie.Need-returns
 returns c =
-    let b2 = c .before .before in
-    let b4 = b2 .before .before in
-    let args = b4 .args in
+    let b2 = c .before .before in let b4 = b2 .before .before in let args = b4 .args in
     ap (λ (n : ℕ). eqb (args .v .line) (args .k) && (leb (args .v .line) (args .v .lines) && eqb (args .v .count) n))
     (b2 .entries-at .ensures) ∙ in-place-is (args .k) (args .v)
 

@@ -21,17 +21,14 @@ zeros = replicate 33 (pos 0)
 
 returns : tie.Need-returns
 returns c =
-    let r = c .before .before .before .before in
-    let args = r .before .before .before .before .args in
+    let r = c .before .before .before .before in let args = r .before .before .before .before .args in
     steps-stop (args .head) (args .k) (args .line .now) (args .seen .now) (args .seen .now) refl (c .stop .result) _ _ (c .stop .ensures)
     (λ es i. rule-refused (seenOf (args .head) es) (args .k) (args .line .now) _ _
     (line-refused (args .line .now) zeros refl (r .read .result) _ (r .read .ensures) (c .before .if1 .taken)))
 
 returns-2 : tie.Need-returns-2
 returns-2 c =
-    let b3 = c .before .before .before in
-    let r = b3 .before .before .before in
-    let args = r .before .before .before .before .args in
+    let b3 = c .before .before .before in let r = b3 .before .before .before in let args = r .before .before .before .before .args in
     let kind = line-kind (args .line .now) zeros refl (r .read .result) _ (r .read .ensures) (b3 .if1 .left) in
     steps-stop (args .head) (args .k) (args .line .now) (args .seen .now) (args .seen .now) refl (c .stop2 .result) 6 0
     (c .stop2 .ensures) (λ es i. rule-other (seenOf (args .head) es) (args .k) (args .line .now) (kind .1)
@@ -47,9 +44,7 @@ lineAt c = start c .args .line .now
 -- The record and its talker are what the line was read to.
 gsv-is : (c : tie.After-at) → readLine (lineAt c) ≡ S.Gsv (c .before .before .talker-of .result) (c .at .result)
 gsv-is c =
-    let talker = c .before .before in
-    let else2 = talker .before .before .before in
-    let else1 = else2 .before .before in
+    let talker = c .before .before in let else2 = talker .before .before .before in let else1 = else2 .before .before in
     let r = else1 .before .before .before in
     line-gsv (lineAt c) zeros refl (r .read .result) _ (r .read .ensures) (else1 .if1 .left) (else2 .if2 .left)
     ∙ ap₂ S.Gsv (sym (talker .talker-of .ensures ∙ ap talkerOf (talker .before .whole-at .ensures))) (sym (c .at .ensures))
@@ -64,14 +59,9 @@ in-line-requires c κs =
 
 returns-3 : tie.Need-returns-3
 returns-3 c =
-    let b2 = c .before .before in
-    let b5 = b2 .before .before .before in
-    let b7 = b5 .before .before in
-    let b8 = b7 .before in
+    let b2 = c .before .before in let b5 = b2 .before .before .before in let b7 = b5 .before .before in let b8 = b7 .before in
     let args = start b8 .args in
-    let follows = b7 .follows in
-    let in-line = b5 .in-line in
-    let fault-of = b2 .fault-of in
+    let follows = b7 .follows in let in-line = b5 .in-line in let fault-of = b2 .fault-of in
     steps-stop (args .head) (args .k) (args .line .now) (args .seen .now) (in-line .last .0) (in-line .ensures .kept) (c .stop3 .result)
     (fault-of .result) 0 (c .stop3 .ensures)
     (rule-fault (args .head) (args .k) (args .line .now) (args .seen .now) (in-line .last .0) (in-line .ensures .kept) _
@@ -80,36 +70,15 @@ returns-3 c =
 
 returns-4 : tie.Need-returns-4
 returns-4 c =
-    let b4 = c .before .before .before .before in
-    let b6 = b4 .before .before in
-    let b7 = b6 .before in
+    let b4 = c .before .before .before .before in let b6 = b4 .before .before in let b7 = b6 .before in
     let args = start b7 .args in
-    let follows = b6 .follows in
-    let in-line = b4 .in-line in
+    let follows = b6 .follows in let in-line = b4 .in-line in
     steps-taken (args .head) (args .k) (args .line .now) (args .seen .now) (in-line .last .0) (in-line .ensures .kept) _
     (b7 .at .result) (gsv-is b7) (follows .result) (in-line .result)
     (follows .ensures) (in-line .ensures) (sym (c .before .fault-of .ensures) ∙ c .if3 .left)
 
 pub step-spec : {M : Type 1} → statement M
 step-spec =
-    tie.close
-    (tie.spec
-    (λ c. search needs)
-    (λ c κs. search needs)
-    (λ c κs. search needs)
-    returns
-    (λ c κs. search needs)
-    returns-2
-    (λ c. search needs)
-    (λ c κs. search needs)
-    (λ c κs. search needs)
-    (λ c. search needs)
-    (λ c κs. search needs)
-    follows-requires
-    in-line-requires
-    (λ c κs. search needs)
-    (λ c κs. search needs)
-    (λ c. search needs)
-    returns-3
-    (λ c. search needs)
-    returns-4)
+    tie.close (tie.spec (λ c. search needs) (λ c κs. search needs) (λ c κs. search needs) returns (λ c κs. search needs) returns-2
+    (λ c. search needs) (λ c κs. search needs) (λ c κs. search needs) (λ c. search needs) (λ c κs. search needs) follows-requires
+    in-line-requires (λ c κs. search needs) (λ c κs. search needs) (λ c. search needs) returns-3 (λ c. search needs) returns-4)

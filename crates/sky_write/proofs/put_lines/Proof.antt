@@ -104,21 +104,6 @@ returns c =
 
 pub put-lines-spec : {M : Type 1} → statement M
 put-lines-spec =
-    tie.close
-    (tie.spec
-    Inv-loop
-    μ-loop
-    cast-lines-for
-    lines-for-requires
-    loop-holds
-    line-of-requires
-    (λ c. c .before .before .loop .inv .place)
-    (λ c. c .before .before .loop .inv .place)
-    (λ c. search needs)
-    (λ c κs. search needs)
-    add-at
-    add-k
-    (λ c. omega (arith, c .before .before .before .before .before .before .loop-test .taken))
-    loop-again
-    same-length
-    returns)
+    tie.close (tie.spec Inv-loop μ-loop cast-lines-for lines-for-requires loop-holds line-of-requires
+    (λ c. c .before .before .loop .inv .place) (λ c. c .before .before .loop .inv .place) (λ c. search needs) (λ c κs. search needs)
+    add-at add-k (λ c. omega (arith, c .before .before .before .before .before .before .loop-test .taken)) loop-again same-length returns)

@@ -9,8 +9,7 @@ use Rattle.sky_write.proofs.write.Tie as tie
 
 returns : tie.Need-returns
 returns c =
-    let b2 = c .before .before in
-    let b4 = b2 .before .before in
+    let b2 = c .before .before in let b4 = b2 .before .before in
     fault-out (b4 .args .t) (b4 .args .r) (b4 .args .out .now) (b2 .fault .ensures) (c .if1 .taken)
 
 room-requires : tie.Need-room-requires
@@ -50,13 +49,5 @@ returns-3 c =
 
 pub write-spec : {M : Type 1} → statement M
 write-spec =
-    tie.close
-    (tie.spec
-    (λ c κs. search needs)
-    returns
-    room-requires
-    (λ c κs. search needs)
-    returns-2
-    put-lines-requires
-    (λ c. search needs)
-    returns-3)
+    tie.close (tie.spec (λ c κs. search needs) returns room-requires (λ c κs. search needs) returns-2 put-lines-requires
+    (λ c. search needs) returns-3)

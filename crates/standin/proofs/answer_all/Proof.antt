@@ -13,17 +13,5 @@ abbrev μ-loop : tie.MeasureT-loop
 
 pub answer-all-spec : {M : Type 1} → statement M
 answer-all-spec =
-    tie.close
-    (tie.spec
-    Inv-loop
-    μ-loop
-    (λ c κs. tt)
-    (λ c. refl)
-    (λ c κs. tt)
-    (λ c. omega arith)
-    (λ c. tt)
-    (λ c. omega arith)
-    (λ c. omega arith)
-    (λ c. omega arith)
-    (λ c. omega arith)
-    (λ c. tt))
+    tie.close (tie.spec Inv-loop μ-loop (λ c κs. tt) (λ c. refl) (λ c κs. tt) (λ c. omega arith) (λ c. tt) (λ c. omega arith)
+    (λ c. omega arith) (λ c. omega arith) (λ c. omega arith) (λ c. tt))

@@ -49,20 +49,7 @@ module _ (t : ℕ) where
       ⨾ (rw (c .before .before .before .digit2 .ensures) at (c .before .before .put2 .ensures)))
 
 pub +put-number-spec : {M : Type 1} → statement M
-+put-number-spec =
-    close
-    μ
-    (λ t.
-    lts.spec
-    (digit-reads.Asked, digit-reads.Learnt, put-reads.Asked, put-reads.Learnt, below t, reads.Post)
-    (at t)
-    reads.Post
-    (λ c κs. tt)
-    (λ c κs. tt)
-    (λ c. c .before .before .put .kept .0)
-    (returns t)
-    (smaller t)
-    (λ c κs. tt)
-    (λ c κs. tt)
-    (same-length t)
-    (returns-2 t))
++put-number-spec = close μ (λ t.
+    lts.spec (digit-reads.Asked, digit-reads.Learnt, put-reads.Asked, put-reads.Learnt, below t, reads.Post) (at t)
+    reads.Post (λ c κs. tt) (λ c κs. tt) (λ c. c .before .before .put .kept .0) (returns t) (smaller t) (λ c κs. tt) (λ c κs. tt)
+    (same-length t) (returns-2 t))

@@ -49,18 +49,7 @@ returns-2 c = move-all (c .before .before .args .a) (c .before .before .args .e)
 
 pub keep-spec : {M : Type 1} → statement M
 keep-spec =
-    tie.close
-    (tie.spec
-    Inv-loop
-    μ-loop
+    tie.close (tie.spec Inv-loop μ-loop
     (λ c. (omega arith, (omega arith, (omega arith, (refl, move-none (c .args .a) (c .args .buf .now))))))
-    (λ c. c .before .before .loop .inv .1 .1 .1 .0)
-    returns
-    (λ c. omega arith)
-    (λ c. omega arith)
-    (λ c. omega arith)
-    (λ c. omega arith)
-    (λ c. omega arith)
-    loop-again
-    (λ c. c .before .loop .inv .1 .1 .1 .0)
-    returns-2)
+    (λ c. c .before .before .loop .inv .1 .1 .1 .0) returns (λ c. omega arith) (λ c. omega arith) (λ c. omega arith) (λ c. omega arith)
+    (λ c. omega arith) loop-again (λ c. c .before .loop .inv .1 .1 .1 .0) returns-2)

@@ -13,23 +13,6 @@ abbrev μ-loop : tie.MeasureT-loop
 
 pub line-spec : {M : Type 1} → statement M
 line-spec =
-    tie.close
-    (tie.spec
-    Inv-loop
-    μ-loop
-    (λ c. refl)
-    (λ c κs. search needs)
-    (λ c. search needs)
-    (λ c. omega arith)
-    (λ c. tt)
-    (λ c. search needs)
-    (λ c. omega arith)
-    (λ c. tt)
-    (λ c. search needs)
-    (λ c. omega arith)
-    (λ c. tt)
-    (λ c. omega arith)
-    (λ c. omega arith)
-    (λ c. omega arith)
-    (λ c. omega arith)
-    (λ c. tt))
+    tie.close (tie.spec Inv-loop μ-loop (λ c. refl) (λ c κs. search needs) (λ c. search needs) (λ c. omega arith) (λ c. tt)
+    (λ c. search needs) (λ c. omega arith) (λ c. tt) (λ c. search needs) (λ c. omega arith) (λ c. tt) (λ c. omega arith)
+    (λ c. omega arith) (λ c. omega arith) (λ c. omega arith) (λ c. tt))

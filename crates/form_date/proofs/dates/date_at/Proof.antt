@@ -17,16 +17,13 @@ returns-2 c = c .no-date2 .ensures ∙ rw (c .before .before .before .before .da
 returns-3 : tie.Need-returns-3
 unfolding dateAt
 returns-3 c =
-    let b4 = c .before .before .before .before in
-    let b7 = b4 .before .before .before in
+    let b4 = c .before .before .before .before in let b7 = b4 .before .before .before in
     c .no-date3 .ensures ∙ rw (b7 .day .given .1, b4 .month .given .1, c .before .enum-told3 .given .1)
 
 returns-4 : tie.Need-returns-4
 unfolding dateAt
 returns-4 c =
-    let b2 = c .before .before in
-    let b4 = b2 .before .before in
-    let b7 = b4 .before .before .before in
+    let b2 = c .before .before in let b4 = b2 .before .before in let b7 = b4 .before .before .before in
     let b10 = b7 .before .before .before in
     c .no-date4 .ensures ∙ rw (
       b10 .day .given .1,
@@ -39,28 +36,11 @@ returns-4 c =
 returns-5 : tie.Need-returns-5
 unfolding dateAt
 returns-5 c =
-    let b3 = c .before .before .before in
-    let b6 = b3 .before .before .before in
-    let b9 = b6 .before .before .before in
+    let b3 = c .before .before .before in let b6 = b3 .before .before .before in let b9 = b6 .before .before .before in
     rw (b9 .day .given .1, b6 .month .given .1, b3 .year .given .1, sym (c .before .is-date .ensures) ∙ not-false _ (c .if1 .left))
 
 pub date-at-spec : {M : Type 1} → statement M
 date-at-spec =
-    tie.close
-    (tie.spec
-    (λ c. search needs)
-    (λ c. search needs)
-    (λ c κs. search needs)
-    returns
-    (λ c. search needs)
-    (λ c. search needs)
-    (λ c κs. search needs)
-    returns-2
-    (λ c. search needs)
-    (λ c. search needs)
-    (λ c κs. search needs)
-    returns-3
-    (λ c κs. search needs)
-    (λ c κs. search needs)
-    returns-4
-    returns-5)
+    tie.close (tie.spec (λ c. search needs) (λ c. search needs) (λ c κs. search needs) returns (λ c. search needs) (λ c. search needs)
+    (λ c κs. search needs) returns-2 (λ c. search needs) (λ c. search needs) (λ c κs. search needs) returns-3 (λ c κs. search needs)
+    (λ c κs. search needs) returns-4 returns-5)

@@ -17,14 +17,12 @@ returns-2 c = rw (le-leb _ _ (c .before .if1 .left), lt-leb _ _ (c .if2 .taken))
 
 returns-3 : tie.Need-returns-3
 returns-3 c =
-    let b2 = c .before .before in
-    let b3 = b2 .before in
+    let b2 = c .before .before in let b3 = b2 .before in
     sym (days-leap _ _ (b3 .if1 .left) (b2 .if2 .left) (rw (c .before .is-leap .ensures) at (c .if3 .taken)))
 
 returns-4 : tie.Need-returns-4
 returns-4 c =
-    let b2 = c .before .before in
-    let b3 = b2 .before in
+    let b2 = c .before .before in let b3 = b2 .before in
     days-common _ _ (b3 .if1 .left) (b2 .if2 .left) (rw (c .before .is-leap .ensures) at (c .if3 .left))
 
 pub days-in-spec : {M : Type 1} → statement M

@@ -21,19 +21,9 @@ full-year-requires c κs = pair-lt _ _ _ (c .pair-at3 .ensures)
 returns-3 : tie.Need-returns-3
 unfolding dateSix
 returns-3 c =
-    let b2 = c .before .before in
-    let b3 = b2 .before in
-    let b4 = b3 .before in
-    let b5 = b4 .before in
-    let b6 = b5 .before in
-    c .date-at .ensures ∙ rw (
-      ne-eqb _ _ (b6 .if1 .left),
-      eq-eqb _ _ (b5 .if2 .left),
-      b4 .pair-at .ensures,
-      b3 .pair-at2 .ensures,
-      c .before .full-year .ensures,
-      b2 .pair-at3 .ensures,
-    )
+    let b2 = c .before .before in let b3 = b2 .before in let b4 = b3 .before in let b5 = b4 .before in let b6 = b5 .before in
+    c .date-at .ensures ∙ rw (ne-eqb _ _ (b6 .if1 .left), eq-eqb _ _ (b5 .if2 .left), b4 .pair-at .ensures, b3 .pair-at2 .ensures)
+    (rw (c .before .full-year .ensures, b2 .pair-at3 .ensures))
 
 pub six-spec : {M : Type 1} → statement M
 six-spec = tie.close (tie.spec (λ c κs. search needs) returns (λ c κs. search needs) returns-2 (λ c κs. search needs)

@@ -6,8 +6,7 @@ use Rattle.form_date.proofs.dates.three_in.Tie as tie
 
 returns : tie.Need-returns
 returns c =
-    let b2 = c .before .before in
-    let b3 = b2 .before in
+    let b2 = c .before .before in let b3 = b2 .before in
     c .three .ensures ∙ rw (c .before .field-in3 .ensures .holds, b2 .field-in2 .ensures .holds, b3 .field-in .ensures .holds)
 
 pub three-in-spec : {M : Type 1} → statement M

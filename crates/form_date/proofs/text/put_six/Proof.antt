@@ -6,9 +6,7 @@ use Rattle.form_date.proofs.text.put_six.Tie as tie
 
 returns : tie.Need-returns
 returns c =
-    let b2 = c .before .before in
-    let b6 = b2 .before .before .before .before in
-    let b10 = b6 .before .before .before .before in
+    let b2 = c .before .before in let b6 = b2 .before .before .before .before in let b10 = b6 .before .before .before .before in
     b10 .put-two .ensures ⨾ (b6 .put-two2 .ensures ⨾ b2 .put-two3 .ensures)
 
 pub put-six-spec : {M : Type 1} → statement M

@@ -14,8 +14,7 @@ returns c = as-text (zone-text (c .before .before .before .before .before .befor
     ⨾ (rw (
       c .before .before .before .minutes .ensures,
       toZ-ofZ {w = w32} {z = c .before .before .before .before .before .before .before .before .before .before .args .z} (search needs),
-    ) at
-    (c .before .before .put-two .ensures)))
+    ) at (c .before .before .put-two .ensures)))
 
 pub put-zone-spec : {M : Type 1} → statement M
 put-zone-spec = tie.close (tie.spec (λ c κs. search needs) (λ c κs. search needs) (λ c κs. search needs) (λ c. search needs) returns)

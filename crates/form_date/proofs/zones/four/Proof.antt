@@ -15,18 +15,13 @@ returns c = rw (eq-eqb _ _ (c .if1 .taken))
 returns-2 : tie.Need-returns-2
 unfolding maybeIntOf zoneFour
 returns-2 c =
-    let b2 = c .before .before in
-    let b3 = b2 .before in
+    let b2 = c .before .before in let b3 = b2 .before in
     c .wrong-zone .ensures ∙ rw (ne-eqb _ _ (b3 .if1 .left), ← b2 .bare .ensures, ne-eqb _ _ (c .before .if2 .taken))
 
 returns-3 : tie.Need-returns-3
 unfolding maybeIntOf zoneFour
 returns-3 c =
-    let b2 = c .before .before in
-    let b3 = b2 .before in
-    let b4 = b3 .before in
-    let b5 = b4 .before in
-    let b6 = b5 .before in
+    let b2 = c .before .before in let b3 = b2 .before in let b4 = b3 .before in let b5 = b4 .before in let b6 = b5 .before in
     c .zone-at .ensures ∙ rw (
       ne-eqb _ _ (b6 .if1 .left),
       ← b5 .bare .ensures,

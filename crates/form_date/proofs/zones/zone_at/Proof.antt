@@ -25,22 +25,15 @@ returns-2 c = c .wrong-zone2 .ensures
 returns-3 : tie.Need-returns-3
 unfolding zoneAt bind
 returns-3 c = c .wrong-zone3 .ensures
-    ∙ rw (
-      c .before .before .before .before .before .hours .given .1,
-      within-yes 0 13 _ (omega arith) (c .before .before .before .if1 .left),
-      c .before .enum-told2 .given .1,
-      within-none 0 59,
-    )
+    ∙ rw (c .before .before .before .before .before .hours .given .1)
+    (rw (within-yes 0 13 _ (omega arith) (c .before .before .before .if1 .left), c .before .enum-told2 .given .1, within-none 0 59))
 
 returns-4 : tie.Need-returns-4
 unfolding zoneAt bind
 returns-4 c = c .wrong-zone4 .ensures
-    ∙ rw (
-      c .before .before .before .before .before .before .before .hours .given .1,
-      within-yes 0 13 _ (omega arith) (c .before .before .before .before .before .if1 .left),
-      c .before .before .before .minutes .given .1,
-      within-past 0 59 _ (omega arith) (c .before .if2 .taken),
-    )
+    ∙ rw (c .before .before .before .before .before .before .before .hours .given .1)
+    (rw (within-yes 0 13 _ (omega arith) (c .before .before .before .before .before .if1 .left))
+    (rw (c .before .before .before .minutes .given .1, within-past 0 59 _ (omega arith) (c .before .if2 .taken))))
 
 returns-5 : tie.Need-returns-5
 unfolding zoneAt zoneOf bind
@@ -86,26 +79,6 @@ returns-7 c = rw (
 
 pub zone-at-spec : {M : Type 1} → statement M
 zone-at-spec =
-    tie.close
-    (tie.spec
-    (λ c. search needs)
-    (λ c. search needs)
-    (λ c κs. search needs)
-    returns
-    (λ c κs. search needs)
-    returns-2
-    (λ c. search needs)
-    (λ c. search needs)
-    (λ c κs. search needs)
-    returns-3
-    (λ c κs. search needs)
-    returns-4
-    (λ c. search needs)
-    (λ c. search needs)
-    (λ c. search needs)
-    returns-5
-    (λ c κs. search needs)
-    returns-6
-    (λ c. search needs)
-    sub-t12
-    returns-7)
+    tie.close (tie.spec (λ c. search needs) (λ c. search needs) (λ c κs. search needs) returns (λ c κs. search needs) returns-2
+    (λ c. search needs) (λ c. search needs) (λ c κs. search needs) returns-3 (λ c κs. search needs) returns-4 (λ c. search needs)
+    (λ c. search needs) (λ c. search needs) returns-5 (λ c κs. search needs) returns-6 (λ c. search needs) sub-t12 returns-7)

@@ -25,9 +25,7 @@ wide-requires c κs = tt
 
 returns : tie.Need-returns Inv-loop μ-loop
 returns c =
-    let b3 = c .before .before .before in
-    let b4 = b3 .before in
-    let b6 = b4 .before .before in
+    let b3 = c .before .before .before in let b4 = b3 .before in let b6 = b4 .before .before in
     letter-good (b6 .args .set .now) (b6 .args .v)
     (sym (b4 .loop .inv .1) ∙ found (b6 .args .set .now) (b4 .loop .i) (b6 .args .v) (b3 .loop-test .taken)
     (sym (c .before .wide .ensures) ∙ c .if1 .taken))
@@ -55,15 +53,4 @@ returns-2 c =
 
 pub letter-spec : {M : Type 1} → statement M
 letter-spec =
-    tie.close
-    (tie.spec
-    Inv-loop
-    μ-loop
-    loop-holds
-    shared-slice-read-wide
-    wide-requires
-    returns
-    add-i
-    loop-less
-    loop-again
-    returns-2)
+    tie.close (tie.spec Inv-loop μ-loop loop-holds shared-slice-read-wide wide-requires returns add-i loop-less loop-again returns-2)

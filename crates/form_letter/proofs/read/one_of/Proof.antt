@@ -13,11 +13,9 @@ returns-2 c = rw (letter-one _ _ (c .before .before .before .if1 .left), not-fou
 
 returns-3 : tie.Need-returns-3
 returns-3 c =
-    let b2 = c .before .before in
-    let b4 = b2 .before .before in
+    let b2 = c .before .before in let b4 = b2 .before .before in
     rw (letter-one _ _ (b4 .if1 .left), found _ _ (rw (b2 .find .ensures) at (c .before .if2 .left)), c .wide .ensures)
 
 pub one-of-spec : {M : Type 1} → statement M
 one-of-spec =
-    tie.close
-    (tie.spec returns (λ c. search needs) (λ c κs. search needs) returns-2 (λ c κs. search needs) returns-3)
+    tie.close (tie.spec returns (λ c. search needs) (λ c κs. search needs) returns-2 (λ c κs. search needs) returns-3)

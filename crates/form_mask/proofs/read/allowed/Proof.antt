@@ -17,8 +17,7 @@ returns-2 c = rw (sym (c .before .before .same-bytes .ensures) ∙ not-false _ (
 returns-3 : tie.Need-returns-3
 unfolding satellitesOf
 returns-3 c =
-    let b2 = c .before .before in
-    let b3 = b2 .before in
+    let b2 = c .before .before in let b3 = b2 .before in
     rw (c .ones .ensures, sym (b3 .same-bytes .ensures) ∙ not-false _ (b2 .if1 .left), le-leb _ _ (c .before .if2 .left))
 
 pub allowed-spec : {M : Type 1} → statement M

@@ -21,8 +21,7 @@ returns-3 c = rw (le-leb _ _ (c .before .before .if1 .left), le-leb _ _ (c .befo
 returns-4 : tie.Need-returns-4
 unfolding hexDigitsOf
 returns-4 c =
-    let b2 = c .before .before in
-    let b3 = b2 .before in
+    let b2 = c .before .before in let b3 = b2 .before in
     c .scan-hex .ensures ∙ rw (le-leb _ _ (b3 .if1 .left), le-leb _ _ (b2 .if2 .left), le-leb _ _ (c .before .if3 .left))
 
 pub hex-digits-spec : {M : Type 1} → statement M

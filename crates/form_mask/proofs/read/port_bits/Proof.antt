@@ -15,15 +15,13 @@ returns c = rw (sym (c .before .before .hex-digits .ensures) ∙ ap num (c .enum
 returns-2 : tie.Need-returns-2
 unfolding portMaskOf bind
 returns-2 c =
-    let b3 = c .before .before .before in
-    let b5 = b3 .before .before in
+    let b3 = c .before .before .before in let b5 = b3 .before .before in
     rw (sym (b5 .hex-digits .ensures) ∙ ap num (b3 .v .given .1), sym (c .before .is-port-mask .ensures) ∙ not-true _ (c .if1 .taken))
 
 returns-3 : tie.Need-returns-3
 unfolding portMaskOf bind
 returns-3 c =
-    let b3 = c .before .before .before in
-    let b5 = b3 .before .before in
+    let b3 = c .before .before .before in let b5 = b3 .before .before in
     rw (sym (b5 .hex-digits .ensures) ∙ ap num (b3 .v .given .1), sym (c .before .is-port-mask .ensures) ∙ not-false _ (c .if1 .left))
 
 pub port-bits-spec : {M : Type 1} → statement M

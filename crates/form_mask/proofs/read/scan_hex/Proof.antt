@@ -32,15 +32,13 @@ loop-holds c = (omega arith, omega arith, omega arith, refl)
 
 returns : tie.Need-returns Inv-loop μ-loop
 returns c =
-    let b3 = c .before .before .before in
-    let b4 = b3 .before in
+    let b3 = c .before .before .before in let b4 = b3 .before in
     sym (hex-off _ _ _ (b3 .loop-test .taken) (sym (c .before .is-hex .ensures) ∙ not-true _ (c .if1 .taken))) ∙ b4 .loop .inv .3
 
 mul-acc : tie.Need-mul-acc Inv-loop μ-loop
 mul-acc c = omega (
   arith,
-  hex-room {i = c .before .before .before .before .loop .i} (omega arith)
-      (c .before .before .before .before .loop .inv .2),
+  hex-room {i = c .before .before .before .before .loop .i} (omega arith) (c .before .before .before .before .loop .inv .2),
 )
 
 hex-value-requires : tie.Need-hex-value-requires Inv-loop μ-loop
@@ -70,18 +68,5 @@ returns-2 c = sym (hex-end _ _ _ (c .loop-test .left)) ∙ c .before .loop .inv 
 
 pub scan-hex-spec : {M : Type 1} → statement M
 scan-hex-spec =
-    tie.close
-    (tie.spec
-    Inv-loop
-    μ-loop
-    loop-holds
-    (λ c. omega arith)
-    (λ c κs. search needs)
-    returns
-    mul-acc
-    hex-value-requires
-    add-acc
-    (λ c. omega arith)
-    (λ c. omega arith)
-    loop-again
-    returns-2)
+    tie.close (tie.spec Inv-loop μ-loop loop-holds (λ c. omega arith) (λ c κs. search needs) returns mul-acc hex-value-requires add-acc
+    (λ c. omega arith) (λ c. omega arith) loop-again returns-2)

@@ -14,12 +14,11 @@ unfolding thousandths
 returns c = rw (sym (c .before .before .digits .ensures) ∙ ap num (c .enum-told .given .1))
 
 mul-t6 : tie.Need-mul-t6
-mul-t6 c = rw (c .scale .ensures)
-    (omega (
-      arith,
-      fraction-lt (now (c .before .before .before .before .before .before .args .t)) (c .before .before .m .given .0 .0)
-          (sym (c .before .before .before .before .digits .ensures) ∙ ap num (c .before .before .m .given .1)),
-    ))
+mul-t6 c = rw (c .scale .ensures) (omega (
+  arith,
+  fraction-lt (now (c .before .before .before .before .before .before .args .t)) (c .before .before .m .given .0 .0)
+      (sym (c .before .before .before .before .digits .ensures) ∙ ap num (c .before .before .m .given .1)),
+))
 
 returns-2 : tie.Need-returns-2
 unfolding thousandths
@@ -27,5 +26,4 @@ returns-2 c = rw (c .scale .ensures, sym (c .before .before .before .before .dig
 
 pub fraction-spec : {M : Type 1} → statement M
 fraction-spec =
-    tie.close
-    (tie.spec (λ c κs. search needs) (λ c. search needs) (λ c. search needs) returns (λ c κs. search needs) mul-t6 returns-2)
+    tie.close (tie.spec (λ c κs. search needs) (λ c. search needs) (λ c. search needs) returns (λ c κs. search needs) mul-t6 returns-2)

@@ -18,8 +18,7 @@ told-int-requires c κs = number-under _ _ (c .read .ensures)
 returns-2 : tie.Need-returns-2
 unfolding maybeIntOf
 returns-2 c =
-    let b3 = c .before .before .before in
-    let b5 = b3 .before .before in
+    let b3 = c .before .before .before in let b5 = b3 .before .before in
     c .told-int .ensures ∙ rw (c .before .read .ensures, rest, ne-eqb _ _ (b5 .if1 .left), height-minus _ (b5 .if1 .left) (b3 .if2 .taken))
 
 told-int-requires-2 : tie.Need-told-int-requires-2
@@ -28,22 +27,10 @@ told-int-requires-2 c κs = number-under _ _ (c .read2 .ensures)
 returns-3 : tie.Need-returns-3
 unfolding maybeIntOf
 returns-3 c =
-    let b2 = c .before .before in
-    let b4 = b2 .before .before in
+    let b2 = c .before .before in let b4 = b2 .before .before in
     c .told-int2 .ensures ∙ rw (c .before .read2 .ensures, ne-eqb _ _ (b4 .if1 .left), height-plain _ (b4 .if1 .left) (b2 .if2 .left))
 
 pub height-spec : {M : Type 1} → statement M
 height-spec =
-    tie.close
-    (tie.spec
-    returns
-    (λ c. search needs)
-    (λ c. search needs)
-    (λ c. search needs)
-    (λ c. search needs)
-    (λ c κs. search needs)
-    told-int-requires
-    returns-2
-    (λ c κs. search needs)
-    told-int-requires-2
-    returns-3)
+    tie.close (tie.spec returns (λ c. search needs) (λ c. search needs) (λ c. search needs) (λ c. search needs) (λ c κs. search needs)
+    told-int-requires returns-2 (λ c κs. search needs) told-int-requires-2 returns-3)

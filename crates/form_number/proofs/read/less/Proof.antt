@@ -15,15 +15,13 @@ returns c = rw (sym (c .before .before .read .ensures) ∙ ap num (c .enum-told 
 returns-2 : tie.Need-returns-2
 unfolding belowOf bind
 returns-2 c =
-    let b2 = c .before .before in
-    let b4 = b2 .before .before in
+    let b2 = c .before .before in let b4 = b2 .before .before in
     rw (sym (b4 .read .ensures) ∙ ap num (b2 .v .given .1), le-ltb _ _ (c .if1 .taken))
 
 returns-3 : tie.Need-returns-3
 unfolding belowOf bind
 returns-3 c =
-    let b2 = c .before .before in
-    let b4 = b2 .before .before in
+    let b2 = c .before .before in let b4 = b2 .before .before in
     rw (sym (b4 .read .ensures) ∙ ap num (b2 .v .given .1), lt-ltb _ _ (c .if1 .left))
 
 pub less-spec : {M : Type 1} → statement M

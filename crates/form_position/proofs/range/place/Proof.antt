@@ -24,15 +24,13 @@ returns c = rw (← lat-is (c .before), ne-eqb _ _ (c .if1 .taken))
 returns-2 : tie.Need-returns-2
 unfolding placeWrong
 returns-2 c =
-    let b3 = c .before .before .before in
-    let b4 = b3 .before in
+    let b3 = c .before .before .before in let b4 = b3 .before in
     rw (← lat-is (b4), eq-eqb _ _ (b3 .if1 .left), ← lon-is (c .before), ne-eqb _ _ (c .if2 .taken))
 
 returns-3 : tie.Need-returns-3
 unfolding placeWrong
 returns-3 c =
-    let b3 = c .before .before .before in
-    let b4 = b3 .before in
+    let b3 = c .before .before .before in let b4 = b3 .before in
     rw (← lat-is (b4), eq-eqb _ _ (b3 .if1 .left), ← lon-is (c .before), eq-eqb _ _ (c .if2 .left))
 
 pub place-spec : {M : Type 1} → statement M

@@ -30,39 +30,14 @@ returns-3 : tie.Need-returns-3
 unfolding angleOf
 returns-3 c =
     c .joined .ensures
-    ∙ rw (
-      eq-eqb _ _ (c .before .before .before .before .before .before .before .before .before .if1 .left),
-      eq-eqb _ _ (c .before .before .before .before .before .before .before .if2 .left),
-      c .before .before .before .before .before .digits .ensures,
-      c .before .before .before .digits2 .ensures,
-      c .before .digits3 .ensures,
-      front,
-      middle,
-      rest,
-    )
+    ∙ rw (eq-eqb _ _ (c .before .before .before .before .before .before .before .before .before .if1 .left))
+    (rw (eq-eqb _ _ (c .before .before .before .before .before .before .before .if2 .left))
+    (rw (c .before .before .before .before .before .digits .ensures, c .before .before .before .digits2 .ensures)
+    (rw (c .before .digits3 .ensures, front, middle, rest))))
 
 pub angle-spec : {M : Type 1} → statement M
 angle-spec =
-    tie.close
-    (tie.spec
-    (λ c. search needs)
-    returns
-    (λ c. search needs)
-    (λ c. search needs)
-    returns-2
-    (λ c. search needs)
-    (λ c. search needs)
-    (λ c. search needs)
-    (λ c κs. search needs)
-    (λ c. search needs)
-    (λ c. search needs)
-    (λ c. search needs)
-    (λ c. search needs)
-    (λ c κs. search needs)
-    (λ c. search needs)
-    (λ c. search needs)
-    (λ c. search needs)
-    (λ c. search needs)
-    (λ c κs. search needs)
-    joined-requires
-    returns-3)
+    tie.close (tie.spec (λ c. search needs) returns (λ c. search needs) (λ c. search needs) returns-2 (λ c. search needs)
+    (λ c. search needs) (λ c. search needs) (λ c κs. search needs) (λ c. search needs) (λ c. search needs) (λ c. search needs)
+    (λ c. search needs) (λ c κs. search needs) (λ c. search needs) (λ c. search needs) (λ c. search needs) (λ c. search needs)
+    (λ c κs. search needs) joined-requires returns-3)

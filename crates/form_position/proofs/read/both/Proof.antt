@@ -21,8 +21,7 @@ returns-2 c =
 returns-3 : tie.Need-returns-3
 unfolding bothOf
 returns-3 c =
-    let b3 = c .before .before .before in
-    let b9 = b3 .before .before .before .before .before .before in
+    let b3 = c .before .before .before in let b9 = b3 .before .before .before .before .before .before in
     c .refused3 .ensures ∙ rw (eq-eqb _ _ (b9 .if1 .left), b3 .if2 .left, ne-eqb _ _ (c .before .if3 .taken))
 
 returns-4 : tie.Need-returns-4

@@ -23,28 +23,23 @@ returns-2 c = rw (c .before .before .before .d .given .1, c .enum-told2 .given .
 returns-3 : tie.Need-returns-3
 unfolding joinedOf bind
 returns-3 c =
-    let b3 = c .before .before .before in
-    let b6 = b3 .before .before .before in
+    let b3 = c .before .before .before in let b6 = b3 .before .before .before in
     rw (b6 .d .given .1, b3 .m .given .1, c .enum-told3 .given .1)
 
 returns-4 : tie.Need-returns-4
 unfolding joinedOf bind
 returns-4 c =
-    let b2 = c .before .before in
-    let b5 = b2 .before .before .before in
-    let b8 = b5 .before .before .before in
+    let b2 = c .before .before in let b5 = b2 .before .before .before in let b8 = b5 .before .before .before in
     rw (b8 .d .given .1, b5 .m .given .1, b2 .p .given .1, le-ltb _ _ (c .if1 .taken))
 
 degrees : (c : tie.Else1) → c .before .before .before .before .before .before .before .before .d .given .0 .0 < 1000
 degrees c =
-    let b8 = c .before .before .before .before .before .before .before .before in
-    let b10 = b8 .before .before in
+    let b8 = c .before .before .before .before .before .before .before .before in let b10 = b8 .before .before in
     subst (λ (n : Num). Under 1000 (num n)) (b8 .d .given .1) (b10 .pre .0)
 
 parts : (c : tie.Else1) → c .before .before .p .given .0 .0 < 10000
 parts c =
-    let b2 = c .before .before in
-    let b10 = b2 .before .before .before .before .before .before .before .before in
+    let b2 = c .before .before in let b10 = b2 .before .before .before .before .before .before .before .before in
     subst (λ (n : Num). Under 10000 (num n)) (b2 .p .given .1) (b10 .pre .1)
 
 mul-v : tie.Need-mul-v
@@ -59,36 +54,16 @@ add-v-2 c = omega (arith, degrees c, parts c)
 returns-5 : tie.Need-returns-5
 unfolding joinedOf bind
 returns-5 c =
-    let b3 = c .before .before .before in
-    let b6 = b3 .before .before .before in
-    let b9 = b6 .before .before .before in
+    let b3 = c .before .before .before in let b6 = b3 .before .before .before in let b9 = b6 .before .before .before in
     rw (b9 .d .given .1, b6 .m .given .1, b3 .p .given .1, lt-ltb _ _ (c .before .if1 .left), lt-leb _ _ (c .if2 .taken))
 
 returns-6 : tie.Need-returns-6
 unfolding joinedOf bind
 returns-6 c =
-    let b3 = c .before .before .before in
-    let b6 = b3 .before .before .before in
-    let b9 = b6 .before .before .before in
+    let b3 = c .before .before .before in let b6 = b3 .before .before .before in let b9 = b6 .before .before .before in
     rw (b9 .d .given .1, b6 .m .given .1, b3 .p .given .1, lt-ltb _ _ (c .before .if1 .left), le-leb _ _ (c .if2 .left))
 
 pub joined-spec : {M : Type 1} → statement M
 joined-spec =
-    tie.close
-    (tie.spec
-    (λ c. search needs)
-    (λ c. search needs)
-    returns
-    (λ c. search needs)
-    (λ c. search needs)
-    returns-2
-    (λ c. search needs)
-    (λ c. search needs)
-    returns-3
-    returns-4
-    mul-v
-    (λ c. search needs)
-    add-v
-    add-v-2
-    returns-5
-    returns-6)
+    tie.close (tie.spec (λ c. search needs) (λ c. search needs) returns (λ c. search needs) (λ c. search needs) returns-2
+    (λ c. search needs) (λ c. search needs) returns-3 returns-4 mul-v (λ c. search needs) add-v add-v-2 returns-5 returns-6)

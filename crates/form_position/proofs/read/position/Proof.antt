@@ -16,9 +16,7 @@ sided-requires-2 c κs = angle-under _ _ _ _ (lit< tt) (c .angle2 .ensures)
 returns : tie.Need-returns
 unfolding positionForm latitudeOf longitudeOf
 returns c =
-    let b2 = c .before .before in
-    let b3 = b2 .before in
-    let b4 = b3 .before in
+    let b2 = c .before .before in let b3 = b2 .before in let b4 = b3 .before in
     c .both .ensures ∙ rw (c .before .sided2 .ensures, b2 .angle2 .ensures, b3 .sided .ensures, b4 .angle .ensures)
 
 pub position-spec : {M : Type 1} → statement M

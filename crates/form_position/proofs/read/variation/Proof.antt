@@ -21,28 +21,16 @@ returns c = c .lettered .ensures ∙ rw (c .before .less .ensures, ne-eqb _ _ (c
 returns-2 : tie.Need-returns-2
 unfolding variationForm
 returns-2 c =
-    let b2 = c .before .before in
-    let b3 = b2 .before in
-    let b6 = b3 .before .before .before in
-    rw (
-      eq-eqb _ _ (b3 .if1 .left),
-      ← b2 .only .ensures,
-      ← c .before .only2 .ensures,
-      not-true (eqb (length (now (b6 .args .u))) 0 || (b2 .only .result || c .before .only2 .result)) (c .if2 .taken),
-    )
+    let b2 = c .before .before in let b3 = b2 .before in let b6 = b3 .before .before .before in
+    rw (eq-eqb _ _ (b3 .if1 .left), ← b2 .only .ensures, ← c .before .only2 .ensures)
+    (rw (not-true (eqb (length (now (b6 .args .u))) 0 || (b2 .only .result || c .before .only2 .result)) (c .if2 .taken)))
 
 returns-3 : tie.Need-returns-3
 unfolding variationForm
 returns-3 c =
-    let b2 = c .before .before in
-    let b3 = b2 .before in
-    let b6 = b3 .before .before .before in
-    rw (
-      eq-eqb _ _ (b3 .if1 .left),
-      ← b2 .only .ensures,
-      ← c .before .only2 .ensures,
-      not-false (eqb (length (now (b6 .args .u))) 0 || (b2 .only .result || c .before .only2 .result)) (c .if2 .left),
-    )
+    let b2 = c .before .before in let b3 = b2 .before in let b6 = b3 .before .before .before in
+    rw (eq-eqb _ _ (b3 .if1 .left), ← b2 .only .ensures, ← c .before .only2 .ensures)
+    (rw (not-false (eqb (length (now (b6 .args .u))) 0 || (b2 .only .result || c .before .only2 .result)) (c .if2 .left)))
 
 pub variation-spec : {M : Type 1} → statement M
 variation-spec = tie.close (tie.spec (λ c κs. search needs) lettered-requires returns (λ c κs. search needs)

@@ -10,8 +10,7 @@ returns : tie.Need-returns
 returns c = (rw (
   c .before .before .before .before .before .before .before .degrees .ensures,
   toZ-ofZ {w = w32} {z = c .before .before .before .before .before .before .before .before .before .before .args .z} (search needs),
-) at
-    (c .before .before .before .before .before .before .put-two .ensures))
+) at (c .before .before .before .before .before .before .put-two .ensures))
     ⨾ (rw (toZ-ofZ {w = w32} {z = c .before .before .before .before .before .before .before .before .before .before .args .z}
     (search needs)) at (c .before .before .put-arc .ensures))
 

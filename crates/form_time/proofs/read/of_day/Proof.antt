@@ -21,19 +21,9 @@ clock-requires c κs = pair-lt _ _ _ (c .pair-at4 .ensures)
 returns-3 : tie.Need-returns-3
 unfolding timeOf
 returns-3 c =
-    let b2 = c .before .before in
-    let b3 = b2 .before in
-    let b4 = b3 .before in
-    let b5 = b4 .before in
-    let b7 = b5 .before .before in
-    c .clock .ensures ∙ rw (
-      eq-eqb _ _ (b7 .if1 .left),
-      eq-eqb _ _ (b5 .if2 .left),
-      b4 .pair-at .ensures,
-      b3 .pair-at2 .ensures,
-      b2 .pair-at3 .ensures,
-      c .before .pair-at4 .ensures,
-    )
+    let b2 = c .before .before in let b3 = b2 .before in let b4 = b3 .before in let b5 = b4 .before in let b7 = b5 .before .before in
+    c .clock .ensures ∙ rw (eq-eqb _ _ (b7 .if1 .left), eq-eqb _ _ (b5 .if2 .left), b4 .pair-at .ensures, b3 .pair-at2 .ensures)
+    (rw (b2 .pair-at3 .ensures, c .before .pair-at4 .ensures))
 
 pub of-day-spec : {M : Type 1} → statement M
 of-day-spec = tie.close (tie.spec returns (λ c. search needs) returns-2 (λ c κs. search needs) (λ c κs. search needs)

@@ -8,8 +8,7 @@ use Rattle.host.proofs.commands.castanwel_counts.Tie as tie
 
 returns : tie.Need-returns
 returns c =
-    let b = c .before .before .before .before in
-    let e = b .counts .ensures in
+    let b = c .before .before .before .before in let e = b .counts .ensures in
     let stood = b .before .args in (
       ap (λ (r : Counts). r .no) e,
       (

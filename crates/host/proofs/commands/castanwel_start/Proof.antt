@@ -8,15 +8,13 @@ use Rattle.host.proofs.commands.castanwel_start.Tie as tie
 
 returns : tie.Need-returns
 returns c =
-    let laid = c .before .before in
-    let e = laid .lay .ensures in
+    let laid = c .before .before in let e = laid .lay .ensures in
     let n = length (laid .before .before .before .args .settings .now) in
     (room n 11 (sym (e .0) ∙ c .if1 .taken), ((refl, refl), rw (laid .before .at-start .ensures) at (e .1)))
 
 returns-2 : tie.Need-returns-2
 returns-2 c =
-    let laid = c .before .before in
-    let e = laid .lay .ensures in
+    let laid = c .before .before in let e = laid .lay .ensures in
     let n = length (laid .before .before .before .args .settings .now) in
     (no-room n 11 (sym (e .0) ∙ c .if1 .left), ((refl, refl), rw (laid .before .at-start .ensures) at (e .1)))
 

@@ -8,8 +8,7 @@ use Rattle.host.proofs.commands.castanwel_step.Tie as tie
 
 returns : tie.Need-returns
 returns c =
-    let b = c .before .before .before .before .before in
-    let e = b .step .ensures in
+    let b = c .before .before .before .before .before in let e = b .step .ensures in
     let stood = b .before .before .before .before .before .args .length .now in (
       ap (λ (w : Written). w .no) (e .0),
       (

@@ -11,8 +11,7 @@ use Rattle.host.proofs.groups.castanwel_read_group.Tie as tie
 
 returns : tie.Need-returns
 returns c =
-    let read = c .before .before .before in
-    let s = read .before .before .args in
+    let read = c .before .before .before in let s = read .before .before .args in
     nobody (groupOf (s .s .now)) (read .read .result) (s .numbers .now) (read .read .ensures) (c .enum-told .given .1)
 
 lay-requires : tie.Need-lay-requires
@@ -23,32 +22,19 @@ lay-requires c κs =
 
 returns-2 : tie.Need-returns-2
 returns-2 c =
-    let lay = c .before .before .lay .ensures in
-    let whose = c .before .before .before .before .before in
-    let read = whose .before .before .before in
-    let s = read .before .before .args in
+    let lay = c .before .before .lay .ensures in let whose = c .before .before .before .before .before in
+    let read = whose .before .before .before in let s = read .before .before .args in
     somebody (groupOf (s .s .now)) (read .read .result) _ (s .numbers .now) _ (read .read .ensures) (whose .whose .given .1) (lay .1)
     (room (length (s .numbers .now)) 254 (sym (lay .0) ∙ c .if1 .taken))
 
 returns-3 : tie.Need-returns-3
 returns-3 c =
-    let lay = c .before .before .lay .ensures in
-    let whose = c .before .before .before .before .before in
-    let read = whose .before .before .before in
-    let s = read .before .before .args in
+    let lay = c .before .before .lay .ensures in let whose = c .before .before .before .before .before in
+    let read = whose .before .before .before in let s = read .before .before .args in
     somebody (groupOf (s .s .now)) (read .read .result) _ (s .numbers .now) _ (read .read .ensures) (whose .whose .given .1) (lay .1)
     (no-room (length (s .numbers .now)) 254 (sym (lay .0) ∙ c .if1 .left))
 
 pub castanwel-read-group-spec : {M : Type 1} → statement M
 castanwel-read-group-spec =
-    tie.close
-    (tie.spec
-    (λ c κs. search needs)
-    (λ c. search needs)
-    (λ c. search needs)
-    returns
-    lay-requires
-    (λ c. search needs)
-    returns-2
-    (λ c. search needs)
-    returns-3)
+    tie.close (tie.spec (λ c κs. search needs) (λ c. search needs) (λ c. search needs) returns lay-requires (λ c. search needs) returns-2
+    (λ c. search needs) returns-3)

@@ -8,8 +8,7 @@ use Rattle.host.proofs.sentences.castanwel_read.Tie as tie
 
 returns : tie.Need-returns
 returns c =
-    let b = c .before .before .before .before in
-    let e = b .read .ensures in
+    let b = c .before .before .before .before in let e = b .read .ensures in
     let stood = b .before .before .before .args .kind .now in (
       ap (λ (t : Told). t .no) (e .0),
       (

@@ -59,8 +59,7 @@ add-if3 : tie.Need-add-if3
 add-if3 c = omega (
   arith,
   c .before .before .before .before .before .pre .numbered,
-  c .before .before .before .shared-slice-known .given
-      (c .before .before .before .before .before .args .at),
+  c .before .before .before .shared-slice-known .given (c .before .before .before .before .before .args .at),
 )
 
 -- src/reading.rt:135:9
@@ -102,27 +101,9 @@ returns-4 c = λ e. let a = c .before .before .before .before .before .before .a
       c .before .before .before .before .before .before .pre
           .inside,
       c .before .before .before .before .before .if1 .left,
-    ))
-    (not-false _ (c .before .if2 .left)) (c .if3 .left) e
+    )) (not-false _ (c .before .if2 .left)) (c .if3 .left) e
 
 pub is-quick-spec : {M : Type 1} → statement M
 is-quick-spec =
-    tie.close
-    (tie.spec
-    sub-if1
-    returns
-    shared-slice-read-gap
-    cast-gap
-    add-skip
-    shared-slice-read-skip
-    cast-skip
-    add-bytes
-    shared-slice-read-bytes
-    cast-bytes
-    returns-2
-    add-if3
-    returns-3
-    add-result
-    add-result-2
-    add-result-3
-    returns-4)
+    tie.close (tie.spec sub-if1 returns shared-slice-read-gap cast-gap add-skip shared-slice-read-skip cast-skip add-bytes
+    shared-slice-read-bytes cast-bytes returns-2 add-if3 returns-3 add-result add-result-2 add-result-3 returns-4)

@@ -25,8 +25,7 @@ bytes : (c : tie.Then1 Inv-loop μ-loop) → Near (c .before .before .before .be
 bytes c = c .before .is-near .ensures (c .if1 .taken)
 
 three : (c : tie.Then1 Inv-loop μ-loop) → Turn (c .before .before .before .before .before .args .s .now) (c .before .before .loop .out) (c
-    .before .before .loop .at) (c .before .before .loop .number)
-    (c .before .before .loop .end) (c .before .before .loop .place)
+    .before .before .loop .at) (c .before .before .loop .number) (c .before .before .loop .end) (c .before .before .loop .place)
 three c = turn (c .before .before .loop .inv .1 .lays) (bytes c)
 
 -- src/reading.rt:247:5
@@ -185,35 +184,6 @@ returns c = c .before .before .loop .inv .1
 
 pub lay-spec : {M : Type 1} → statement M
 lay-spec =
-    tie.close
-    (tie.spec
-    Inv-loop
-    μ-loop
-    loop-holds
-    is-near-requires
-    add-skip
-    shared-slice-read-skip
-    cast-skip
-    add-bytes
-    shared-slice-read-bytes
-    cast-bytes
-    shared-slice-read-number
-    cast-number
-    add-number
-    mul-out
-    slice-write-out
-    add-out
-    add-out-2
-    mul-out-2
-    slice-write-out-2
-    add-out-3
-    mul-out-3
-    slice-write-out-3
-    add-end
-    add-end-2
-    add-at
-    add-place
-    loop-less
-    loop-again
-    same-length
-    returns)
+    tie.close (tie.spec Inv-loop μ-loop loop-holds is-near-requires add-skip shared-slice-read-skip cast-skip add-bytes
+    shared-slice-read-bytes cast-bytes shared-slice-read-number cast-number add-number mul-out slice-write-out add-out add-out-2 mul-out-2
+    slice-write-out-2 add-out-3 mul-out-3 slice-write-out-3 add-end add-end-2 add-at add-place loop-less loop-again same-length returns)

@@ -74,8 +74,7 @@ lay-requires c κs = turned c .lays
 -- src/reading.rt:294:5
 loop-less : tie.Need-loop-less Inv-loop μ-loop
 loop-less c = let t = came (c .before .before .before .before .before .before .before .before .before) in
-    let one = c .before .before .before .before .before .before .lay-one in
-    let behind = c .before .before .lay .ensures in
+    let one = c .before .before .before .before .before .before .lay-one in let behind = c .before .before .lay .ensures in
     omega (arith, t .on, placed (one .ensures .0), behind .on, behind .lays .inside)
 
 -- src/reading.rt:294:5
@@ -99,8 +98,7 @@ returns : tie.Need-returns Inv-loop μ-loop
 returns c = let b5 = c .before .before .before .before .before in
     let p = b5 .loop .laid in
     laid-never (b5 .loop .inv .1 .lays) (entered-short (b5 .before .before .before .args .s .now) (p .at) (tip (p .number) (p .end)) (c
-    .before .before .before .if1 .taken)
-    (c .before .before .entry-at .ensures) (c .enum-told .given .1))
+    .before .before .before .if1 .taken) (c .before .before .entry-at .ensures) (c .enum-told .given .1))
 
 -- src/reading.rt:307:26
 enum-told-2 : tie.Need-enum-told-2 Inv-loop μ-loop
@@ -127,22 +125,5 @@ returns-3 c = laid-all (c .before .before .before .before .before .pre) (c .befo
 
 pub lay-all-spec : {M : Type 1} → statement M
 lay-all-spec =
-    tie.close
-    (tie.spec
-    Inv-loop
-    μ-loop
-    loop-holds
-    entry-at-requires
-    enum-known-next
-    lay-one-requires
-    lay-requires
-    loop-less
-    loop-again
-    enum-told
-    same-length
-    returns
-    enum-told-2
-    same-length-2
-    returns-2
-    same-length-3
-    returns-3)
+    tie.close (tie.spec Inv-loop μ-loop loop-holds entry-at-requires enum-known-next lay-one-requires lay-requires loop-less loop-again
+    enum-told same-length returns enum-told-2 same-length-2 returns-2 same-length-3 returns-3)

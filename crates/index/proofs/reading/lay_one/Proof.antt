@@ -60,23 +60,10 @@ unfolding numbersOf
 returns c = (
   refl,
   three-room (c .before .args .place) (c .before .args .e .number) (c .before .args .e .offset) (c .before .args .e .length) (c .before
-      .args .out .now)
-      (c .before .pre .0),
+      .args .out .now) (c .before .pre .0),
 )
 
 pub lay-one-spec : {M : Type 1} → statement M
 lay-one-spec =
-    tie.close
-    (tie.spec
-    mul-out
-    slice-write-out
-    add-out
-    mul-out-2
-    slice-write-out-2
-    add-out-2
-    mul-out-3
-    slice-write-out-3
-    add-t10
-    add-t5
-    same-length
-    returns)
+    tie.close (tie.spec mul-out slice-write-out add-out mul-out-2 slice-write-out-2 add-out-2 mul-out-3 slice-write-out-3 add-t10 add-t5
+    same-length returns)

@@ -134,27 +134,6 @@ returns c = passes-from (c .before .before .before .before .before .before .args
 
 pub pass-spec : {M : Type 1} → statement M
 pass-spec =
-    tie.close
-    (tie.spec
-    Inv-loop
-    μ-loop
-    add-end
-    loop-holds
-    is-quick-requires
-    add-bytes
-    shared-slice-read-bytes
-    cast-bytes
-    shared-slice-read-number
-    cast-number
-    add-number
-    add-end-2
-    shared-slice-read-end
-    cast-end
-    add-end-3
-    add-end-4
-    add-at
-    add-count
-    loop-less
-    loop-again
-    sub-t19
-    returns)
+    tie.close (tie.spec Inv-loop μ-loop add-end loop-holds is-quick-requires add-bytes shared-slice-read-bytes cast-bytes
+    shared-slice-read-number cast-number add-number add-end-2 shared-slice-read-end cast-end add-end-3 add-end-4 add-at add-count
+    loop-less loop-again sub-t19 returns)

@@ -76,14 +76,5 @@ returns-3 c = let s = c .before .before .before .before .before .before .before 
 
 pub read-spec : {M : Type 1} → statement M
 read-spec =
-    tie.close
-    (tie.spec
-    scan-requires
-    listing-requires
-    returns
-    listing-requires-2
-    returns-2
-    lay-all-requires
-    listing-requires-3
-    same-length
-    returns-3)
+    tie.close (tie.spec scan-requires listing-requires returns listing-requires-2 returns-2 lay-all-requires listing-requires-3
+    same-length returns-3)

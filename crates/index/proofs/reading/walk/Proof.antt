@@ -79,8 +79,7 @@ loop-less c = let x = came (c .before .before .before .before) in omega (arith, 
 -- src/reading.rt:187:5
 loop-again : tie.Need-loop-again Inv-loop μ-loop
 loop-again c = let b4 = c .before .before .before .before in
-    let b9 = b4 .before .before .before .before .before in
-    let b13 = b9 .before .before .before .before in
+    let b9 = b4 .before .before .before .before .before in let b13 = b9 .before .before .before .before in
     let w : Walking (b13 .args .s .now) (b13 .args .number) (c .before .before .found-next .result)
     (placed (b4 .next .given .0 .1 .0) (b9 .loop .place .count + 1) (b4 .next .given .0 .0)) =
     rw (c .before .before .found-next .ensures) (walking-next (b9 .loop .inv) (came b4)) in
@@ -99,8 +98,7 @@ returns : tie.Need-returns Inv-loop μ-loop
 returns c = let b6 = c .before .before .before .before .before .before in
     walked-none (b6 .loop .inv) (c .no-index .ensures)
     (entered-short (b6 .before .before .before .before .args .s .now) (b6 .loop .place .at) (b6 .loop .place .last) (c .before .before
-    .before .before .if1 .taken)
-    (c .before .before .before .entry-at .ensures) (c .before .enum-told .given .1))
+    .before .before .if1 .taken) (c .before .before .before .entry-at .ensures) (c .before .enum-told .given .1))
 
 -- src/reading.rt:200:26
 enum-told-2 : tie.Need-enum-told-2 Inv-loop μ-loop
@@ -127,25 +125,6 @@ returns-3 c = walked-all (c .before .before .before .loop .inv) (c .whole .ensur
 
 pub walk-spec : {M : Type 1} → statement M
 walk-spec =
-    tie.close
-    (tie.spec
-    Inv-loop
-    μ-loop
-    finding-requires
-    origin-requires
-    loop-holds
-    entry-at-requires
-    enum-known-next
-    found-next-requires
-    add-t12
-    pass-requires
-    loop-less
-    loop-again
-    enum-told
-    no-index-requires
-    returns
-    enum-told-2
-    no-index-requires-2
-    returns-2
-    whole-requires
-    returns-3)
+    tie.close (tie.spec Inv-loop μ-loop finding-requires origin-requires loop-holds entry-at-requires enum-known-next found-next-requires
+    add-t12 pass-requires loop-less loop-again enum-told no-index-requires returns enum-told-2 no-index-requires-2 returns-2
+    whole-requires returns-3)

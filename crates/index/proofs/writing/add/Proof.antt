@@ -52,8 +52,7 @@ same-length c = search needs
 
 -- src/lib.rt:352:9
 returns-2 : tie.Need-returns-2
-returns-2 c = let none = scan-none
-    (readIndex (take (c .before .before .before .before .before .before .before .before .args .used)
+returns-2 c = let none = scan-none (readIndex (take (c .before .before .before .before .before .before .before .before .args .used)
     (c .before .before .before .before .before .before .before .before .args .index .now))) (c .before .before .before .scan .result)
     (scan-front (c .before .before .before .before .before .before .before .before .args .used)
     (c .before .before .before .before .before .before .before .before .args .index .now) (c .before .before .before .scan .result)
@@ -175,28 +174,6 @@ returns-5 c = let x = scan-whole
 
 pub add-spec : {M : Type 1} → statement M
 add-spec =
-    tie.close
-    (tie.spec
-    refuse-requires
-    returns
-    sub-scan
-    part-scan-start
-    part-scan-end
-    scan-requires
-    refuse-requires-2
-    same-length
-    returns-2
-    fits-requires
-    refuse-requires-3
-    same-length-2
-    returns-3
-    size-requires
-    sub-if4
-    refuse-requires-4
-    same-length-3
-    returns-4
-    put-longer-requires
-    add-wrote
-    wrote-requires
-    same-length-4
-    returns-5)
+    tie.close (tie.spec refuse-requires returns sub-scan part-scan-start part-scan-end scan-requires refuse-requires-2 same-length
+    returns-2 fits-requires refuse-requires-3 same-length-2 returns-3 size-requires sub-if4 refuse-requires-4 same-length-3 returns-4
+    put-longer-requires add-wrote wrote-requires same-length-4 returns-5)

@@ -66,15 +66,5 @@ returns-2 c = λ e. let a = c .before .before .before .args in
 
 pub is-close-spec : {M : Type 1} → statement M
 is-close-spec =
-    tie.close
-    (tie.spec
-    sub-if1
-    returns
-    mul-result
-    shared-slice-read-result
-    sub-result
-    add-result
-    mul-result-2
-    shared-slice-read-result-2
-    sub-result-2
-    returns-2)
+    tie.close (tie.spec sub-if1 returns mul-result shared-slice-read-result sub-result add-result mul-result-2 shared-slice-read-result-2
+    sub-result-2 returns-2)

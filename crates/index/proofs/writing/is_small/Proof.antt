@@ -76,25 +76,9 @@ returns-3 c = λ e. let a = c .before .before .before .before .before .args in
       c .before .before .before .before .before .pre .inside,
       c
           .before .before .before .before .if1 .left,
-    ))
-    (not-false _ (c .if2 .left)) e
+    )) (not-false _ (c .if2 .left)) e
 
 pub is-small-spec : {M : Type 1} → statement M
 is-small-spec =
-    tie.close
-    (tie.spec
-    sub-if1
-    returns
-    mul-n
-    shared-slice-read-n
-    add-offset
-    mul-offset
-    shared-slice-read-offset
-    add-bytes
-    mul-bytes
-    shared-slice-read-bytes
-    add-if2
-    add-if2-2
-    returns-2
-    add-result
-    returns-3)
+    tie.close (tie.spec sub-if1 returns mul-n shared-slice-read-n add-offset mul-offset shared-slice-read-offset add-bytes mul-bytes
+    shared-slice-read-bytes add-if2 add-if2-2 returns-2 add-result returns-3)

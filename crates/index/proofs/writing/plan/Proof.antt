@@ -110,24 +110,5 @@ returns c = (c .before .before .before .before .loop .inv .1, c .before .before 
 
 pub plan-spec : {M : Type 1} → statement M
 plan-spec =
-    tie.close
-    (tie.spec
-    Inv-loop
-    μ-loop
-    loop-holds
-    is-small-requires
-    mul-number
-    shared-slice-read-number
-    add-end
-    mul-end
-    shared-slice-read-end
-    add-end-2
-    mul-end-2
-    shared-slice-read-end-2
-    add-end-3
-    add-i
-    loop-less
-    loop-again
-    sub-t16
-    add-t17
-    returns)
+    tie.close (tie.spec Inv-loop μ-loop loop-holds is-small-requires mul-number shared-slice-read-number add-end mul-end
+    shared-slice-read-end add-end-2 mul-end-2 shared-slice-read-end-2 add-end-3 add-i loop-less loop-again sub-t16 add-t17 returns)

@@ -137,26 +137,6 @@ returns-4 c = c .wrote .ensures ∙ planned-all (c .before .before .before .befo
 
 pub planned-spec : {M : Type 1} → statement M
 planned-spec =
-    tie.close
-    (tie.spec
-    Inv-loop
-    μ-loop
-    loop-holds
-    sub-if1
-    three-requires
-    fits-requires
-    refuse-requires
-    returns
-    add-t7
-    add-t11
-    size-requires
-    add-t12
-    plan-requires
-    loop-less
-    loop-again
-    refuse-requires-2
-    returns-2
-    refuse-requires-3
-    returns-3
-    wrote-requires
+    tie.close (tie.spec Inv-loop μ-loop loop-holds sub-if1 three-requires fits-requires refuse-requires returns add-t7 add-t11
+    size-requires add-t12 plan-requires loop-less loop-again refuse-requires-2 returns-2 refuse-requires-3 returns-3 wrote-requires
     returns-4)

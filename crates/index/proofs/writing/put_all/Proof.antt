@@ -102,18 +102,5 @@ returns c = put-all (c .before .before .loop .inv .1) (c .if1 .left)
 
 pub put-all-spec : {M : Type 1} → statement M
 put-all-spec =
-    tie.close
-    (tie.spec
-    Inv-loop
-    μ-loop
-    loop-holds
-    sub-if1
-    three-requires
-    put-longer-requires
-    add-t8
-    add-t13
-    put-close-requires
-    loop-less
-    loop-again
-    same-length
-    returns)
+    tie.close (tie.spec Inv-loop μ-loop loop-holds sub-if1 three-requires put-longer-requires add-t8 add-t13 put-close-requires loop-less
+    loop-again same-length returns)

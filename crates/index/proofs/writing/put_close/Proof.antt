@@ -181,34 +181,6 @@ returns c = c .before .before .loop .inv .1
 
 pub put-close-spec : {M : Type 1} → statement M
 put-close-spec =
-    tie.close
-    (tie.spec
-    Inv-loop
-    μ-loop
-    loop-holds
-    is-close-requires
-    mul-n
-    shared-slice-read-n
-    add-offset
-    mul-offset
-    shared-slice-read-offset
-    add-bytes
-    mul-bytes
-    shared-slice-read-bytes
-    sub-out
-    cast-out
-    slice-write-out
-    sub-out-2
-    cast-out-2
-    add-out
-    slice-write-out-2
-    cast-out-3
-    add-out-2
-    slice-write-out-3
-    add-end
-    add-i
-    add-place
-    loop-less
-    loop-again
-    same-length
-    returns)
+    tie.close (tie.spec Inv-loop μ-loop loop-holds is-close-requires mul-n shared-slice-read-n add-offset mul-offset
+    shared-slice-read-offset add-bytes mul-bytes shared-slice-read-bytes sub-out cast-out slice-write-out sub-out-2 cast-out-2 add-out
+    slice-write-out-2 cast-out-3 add-out-2 slice-write-out-3 add-end add-i add-place loop-less loop-again same-length returns)

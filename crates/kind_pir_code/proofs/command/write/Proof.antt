@@ -7,20 +7,11 @@ use Rattle.kind_pir_code.proofs.command.write.Tie as tie
 
 returns : tie.Need-returns
 returns c =
-    let b2 = c .before .before in
-    let b5 = b2 .before .before .before in
-    let b7 = b5 .before .before in
+    let b2 = c .before .before in let b5 = b2 .before .before .before in let b7 = b5 .before .before in
     let b10 = b7 .before .before .before in
     rw (← b5 .fault .ensures) (sealed (b5 .fault .result) (b10 .args .out .now) (lit< tt) (b7 .put-body .ensures) (b2 .finish .ensures))
 
 pub write-spec : {M : Type 1} → statement M
 write-spec =
-    tie.close
-    (tie.spec
-    (λ c. search needs)
-    (λ c κs. search needs)
-    (λ c κs. search needs)
-    (λ c. search needs)
-    (λ c κs. search needs)
-    (λ c. search needs)
-    returns)
+    tie.close (tie.spec (λ c. search needs) (λ c κs. search needs) (λ c κs. search needs) (λ c. search needs) (λ c κs. search needs)
+    (λ c. search needs) returns)

@@ -19,19 +19,11 @@ fits c = search needs
 returns : tie.Need-returns
 unfolding pireaLayout pireaRow makerNumbers
 returns c =
-    let s = c .before .before .before .before .before in
-    let r = s .args .r in
+    let s = c .before .before .before .before .before in let r = s .args .r in
     let f = fits s in
-    tells-by (now (s .args .out)) 15 _ _ (c .before .tell .ensures)
-    (wide (r .code) (f)
+    tells-by (now (s .args .out)) 15 _ _ (c .before .tell .ensures) (wide (r .code) (f)
     ⋮ refl)
 
 pub lay-spec : {M : Type 1} → statement M
 lay-spec =
-    tie.close
-    (tie.spec
-    (λ c. search needs)
-    (λ c. search needs)
-    (λ c κs. search needs)
-    (λ c. search needs)
-    returns)
+    tie.close (tie.spec (λ c. search needs) (λ c. search needs) (λ c κs. search needs) (λ c. search needs) returns)

@@ -23,12 +23,9 @@ cast-t7 c = cast-fits _ (fits (c .before .before .before .before .before) .1)
 returns : tie.Need-returns
 unfolding pirtrLayout pirtrRow makerNumbers
 returns c =
-    let b1 = c .before .before .before .before .before .before .before .before in
-    let s = b1 .before in
-    let r = s .args .r in
+    let b1 = c .before .before .before .before .before .before .before .before in let s = b1 .before in let r = s .args .r in
     let f = fits s in
-    tells-by (now (s .args .out)) 9 _ _ (c .before .tell .ensures)
-    (mark-back (r .datum .there)
+    tells-by (now (s .args .out)) 9 _ _ (c .before .tell .ensures) (mark-back (r .datum .there)
     ⋮ wide (r .datum .value) (f .0)
     ⋮ mark-back (r .zone .there)
     ⋮ cast-back (r .zone .minutes) (f .1)
@@ -36,13 +33,5 @@ returns c =
 
 pub lay-spec : {M : Type 1} → statement M
 lay-spec =
-    tie.close
-    (tie.spec
-    (λ c. search needs)
-    (λ c. search needs)
-    (λ c. search needs)
-    cast-t7
-    (λ c. search needs)
-    (λ c κs. search needs)
-    (λ c. search needs)
-    returns)
+    tie.close (tie.spec (λ c. search needs) (λ c. search needs) (λ c. search needs) cast-t7 (λ c. search needs) (λ c κs. search needs)
+    (λ c. search needs) returns)

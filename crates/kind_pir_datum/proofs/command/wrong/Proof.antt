@@ -15,25 +15,11 @@ fits1 c = search needs
 returns : tie.Need-returns
 unfolding faultBy pirtrRow
 returns c =
-    let b2 = c .before .before in
-    let b3 = b2 .before in
-    let b4 = b3 .before in
-    let b6 = b4 .before .before in
-    c .near2 .ensures ∙ rw (
-      c .before .maybe .ensures,
-      b2 .near .ensures,
-      b3 .alike .ensures,
-      b4 .signed .ensures,
-      toZ-ofZ {w = w32} {z = b6 .args .r .zone .minutes} (fits1 (b6)),
-    )
+    let b2 = c .before .before in let b3 = b2 .before in let b4 = b3 .before in let b6 = b4 .before .before in
+    c .near2 .ensures ∙ rw (c .before .maybe .ensures, b2 .near .ensures, b3 .alike .ensures, b4 .signed .ensures)
+    (rw (toZ-ofZ {w = w32} {z = b6 .args .r .zone .minutes} (fits1 (b6))))
 
 pub wrong-spec : {M : Type 1} → statement M
 wrong-spec =
-    tie.close
-    (tie.spec
-    (λ c κs. search needs)
-    (λ c κs. search needs)
-    (λ c κs. search needs)
-    (λ c κs. search needs)
-    (λ c κs. search needs)
+    tie.close (tie.spec (λ c κs. search needs) (λ c κs. search needs) (λ c κs. search needs) (λ c κs. search needs) (λ c κs. search needs)
     returns)

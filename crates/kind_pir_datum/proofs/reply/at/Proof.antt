@@ -12,8 +12,4 @@ returns c = rw (c .before .whole-at .ensures, toZ-ofZ {w = w32} {z = c .signed-a
 
 pub at-spec : {M : Type 1} → statement M
 at-spec =
-    tie.close
-    (tie.spec
-    (λ c κs. search needs)
-    (λ c κs. search needs)
-    returns)
+    tie.close (tie.spec (λ c κs. search needs) (λ c κs. search needs) returns)

@@ -23,21 +23,12 @@ cast-t5 c = cast-fits _ (fits (c .before .before .before) .1)
 returns : tie.Need-returns
 unfolding pirtaLayout pirtaRow makerNumbers
 returns c =
-    let s = c .before .before .before .before .before .before .before in
-    let r = s .args .r in
+    let s = c .before .before .before .before .before .before .before in let r = s .args .r in
     let f = fits s in
-    tells-by (now (s .args .out)) 13 _ _ (c .before .tell .ensures)
-    (wide (r .datum) (f .0)
+    tells-by (now (s .args .out)) 13 _ _ (c .before .tell .ensures) (wide (r .datum) (f .0)
     ⋮ cast-back (r .zone) (f .1)
     ⋮ refl)
 
 pub lay-spec : {M : Type 1} → statement M
 lay-spec =
-    tie.close
-    (tie.spec
-    (λ c. search needs)
-    cast-t5
-    (λ c. search needs)
-    (λ c κs. search needs)
-    (λ c. search needs)
-    returns)
+    tie.close (tie.spec (λ c. search needs) cast-t5 (λ c. search needs) (λ c κs. search needs) (λ c. search needs) returns)

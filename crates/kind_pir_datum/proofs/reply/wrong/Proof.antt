@@ -15,15 +15,9 @@ fits1 c = search needs
 returns : tie.Need-returns
 unfolding faultBy pirtaRow
 returns c =
-    let b2 = c .before .before in
-    let b3 = b2 .before in
-    let b5 = b3 .before .before in
-    c .near2 .ensures ∙ rw (
-      c .before .within .ensures,
-      b2 .near .ensures,
-      b3 .signed .ensures,
-      toZ-ofZ {w = w32} {z = b5 .args .r .zone} (fits1 (b5)),
-    )
+    let b2 = c .before .before in let b3 = b2 .before in let b5 = b3 .before .before in
+    c .near2 .ensures ∙ rw (c .before .within .ensures, b2 .near .ensures, b3 .signed .ensures)
+    (rw (toZ-ofZ {w = w32} {z = b5 .args .r .zone} (fits1 (b5))))
 
 pub wrong-spec : {M : Type 1} → statement M
 wrong-spec = tie.close (tie.spec (λ c κs. search needs) (λ c κs. search needs) (λ c κs. search needs) (λ c κs. search needs) returns)

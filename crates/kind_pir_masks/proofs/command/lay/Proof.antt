@@ -20,11 +20,9 @@ fits c = (search needs, search needs)
 returns : tie.Need-returns
 unfolding pirsrLayout pirsrRow makerNumbers
 returns c =
-    let s = c .before .before .before .before .before .before .before .before in
-    let r = s .args .r in
+    let s = c .before .before .before .before .before .before .before .before in let r = s .args .r in
     let f = fits s in
-    tells-by (now (s .args .out)) 10 _ _ (c .before .tell .ensures)
-    (mark-back (r .gps .there)
+    tells-by (now (s .args .out)) 10 _ _ (c .before .tell .ensures) (mark-back (r .gps .there)
     ⋮ wide (r .gps .value) (f .0)
     ⋮ mark-back (r .glonass .there)
     ⋮ wide (r .glonass .value) (f .1)
@@ -32,13 +30,5 @@ returns c =
 
 pub lay-spec : {M : Type 1} → statement M
 lay-spec =
-    tie.close
-    (tie.spec
-    (λ c. search needs)
-    (λ c. search needs)
-    (λ c. search needs)
-    (λ c. search needs)
-    (λ c. search needs)
-    (λ c κs. search needs)
-    (λ c. search needs)
-    returns)
+    tie.close (tie.spec (λ c. search needs) (λ c. search needs) (λ c. search needs) (λ c. search needs) (λ c. search needs)
+    (λ c κs. search needs) (λ c. search needs) returns)

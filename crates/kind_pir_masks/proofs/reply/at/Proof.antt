@@ -10,8 +10,4 @@ returns c = rw (c .before .whole-at .ensures, c .whole-at2 .ensures)
 
 pub at-spec : {M : Type 1} → statement M
 at-spec =
-    tie.close
-    (tie.spec
-    (λ c κs. search needs)
-    (λ c κs. search needs)
-    returns)
+    tie.close (tie.spec (λ c κs. search needs) (λ c κs. search needs) returns)

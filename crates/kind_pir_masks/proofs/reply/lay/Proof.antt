@@ -20,21 +20,12 @@ fits c = (search needs, search needs)
 returns : tie.Need-returns
 unfolding pirsaLayout pirsaRow makerNumbers
 returns c =
-    let s = c .before .before .before .before .before .before in
-    let r = s .args .r in
+    let s = c .before .before .before .before .before .before in let r = s .args .r in
     let f = fits s in
-    tells-by (now (s .args .out)) 14 _ _ (c .before .tell .ensures)
-    (wide (r .gps) (f .0)
+    tells-by (now (s .args .out)) 14 _ _ (c .before .tell .ensures) (wide (r .gps) (f .0)
     ⋮ wide (r .glonass) (f .1)
     ⋮ refl)
 
 pub lay-spec : {M : Type 1} → statement M
 lay-spec =
-    tie.close
-    (tie.spec
-    (λ c. search needs)
-    (λ c. search needs)
-    (λ c. search needs)
-    (λ c κs. search needs)
-    (λ c. search needs)
-    returns)
+    tie.close (tie.spec (λ c. search needs) (λ c. search needs) (λ c. search needs) (λ c κs. search needs) (λ c. search needs) returns)

@@ -10,8 +10,7 @@ use Rattle.kind_pir_masks.proofs.reply.wrong.Tie as tie
 returns : tie.Need-returns
 unfolding faultBy pirsaRow
 returns c =
-    let b2 = c .before .before in
-    let b3 = b2 .before in
+    let b2 = c .before .before in let b3 = b2 .before in
     c .near2 .ensures ∙ rw (c .before .within2 .ensures, b2 .near .ensures, b3 .within .ensures, never-wrong 2)
 
 pub wrong-spec : {M : Type 1} → statement M

@@ -7,19 +7,8 @@ use Rattle.kind_pir_port.proofs.command.at.Tie as tie
 returns : tie.Need-returns
 unfolding pirprLayout pirprRow
 returns c =
-    rw (
-      c .before .before .before .maybe .ensures,
-      c .before .before .maybe2 .ensures,
-      c .before .maybe3 .ensures,
-      c .maybe4 .ensures,
-    )
+    rw (c .before .before .before .maybe .ensures, c .before .before .maybe2 .ensures, c .before .maybe3 .ensures, c .maybe4 .ensures)
 
 pub at-spec : {M : Type 1} → statement M
 at-spec =
-    tie.close
-    (tie.spec
-    (λ c κs. search needs)
-    (λ c κs. search needs)
-    (λ c κs. search needs)
-    (λ c κs. search needs)
-    returns)
+    tie.close (tie.spec (λ c κs. search needs) (λ c κs. search needs) (λ c κs. search needs) (λ c κs. search needs) returns)

@@ -22,12 +22,10 @@ fits c = (search needs, search needs, search needs, search needs)
 returns : tie.Need-returns
 unfolding pirprLayout pirprRow makerNumbers
 returns c =
-    let b1 = c .before .before .before .before .before .before .before .before in
-    let s = b1 .before .before .before .before in
+    let b1 = c .before .before .before .before .before .before .before .before in let s = b1 .before .before .before .before in
     let r = s .args .r in
     let f = fits s in
-    tells-by (now (s .args .out)) 8 _ _ (c .before .tell .ensures)
-    (mark-back (r .port .there)
+    tells-by (now (s .args .out)) 8 _ _ (c .before .tell .ensures) (mark-back (r .port .there)
     ⋮ wide (r .port .value) (f .0)
     ⋮ mark-back (r .rate .there)
     ⋮ wide (r .rate .value) (f .1)
@@ -39,17 +37,5 @@ returns c =
 
 pub lay-spec : {M : Type 1} → statement M
 lay-spec =
-    tie.close
-    (tie.spec
-    (λ c. search needs)
-    (λ c. search needs)
-    (λ c. search needs)
-    (λ c. search needs)
-    (λ c. search needs)
-    (λ c. search needs)
-    (λ c. search needs)
-    (λ c. search needs)
-    (λ c. search needs)
-    (λ c κs. search needs)
-    (λ c. search needs)
-    returns)
+    tie.close (tie.spec (λ c. search needs) (λ c. search needs) (λ c. search needs) (λ c. search needs) (λ c. search needs)
+    (λ c. search needs) (λ c. search needs) (λ c. search needs) (λ c. search needs) (λ c κs. search needs) (λ c. search needs) returns)

@@ -22,11 +22,9 @@ fits c = (search needs, search needs, search needs, search needs)
 returns : tie.Need-returns
 unfolding pirpaLayout pirpaRow makerNumbers
 returns c =
-    let s = c .before .before .before .before .before .before .before .before in
-    let r = s .args .r in
+    let s = c .before .before .before .before .before .before .before .before in let r = s .args .r in
     let f = fits s in
-    tells-by (now (s .args .out)) 12 _ _ (c .before .tell .ensures)
-    (wide (r .port) (f .0)
+    tells-by (now (s .args .out)) 12 _ _ (c .before .tell .ensures) (wide (r .port) (f .0)
     ⋮ wide (r .rate) (f .1)
     ⋮ wide (r .protocol) (f .2)
     ⋮ wide (r .mask) (f .3)
@@ -34,13 +32,5 @@ returns c =
 
 pub lay-spec : {M : Type 1} → statement M
 lay-spec =
-    tie.close
-    (tie.spec
-    (λ c. search needs)
-    (λ c. search needs)
-    (λ c. search needs)
-    (λ c. search needs)
-    (λ c. search needs)
-    (λ c κs. search needs)
-    (λ c. search needs)
-    returns)
+    tie.close (tie.spec (λ c. search needs) (λ c. search needs) (λ c. search needs) (λ c. search needs) (λ c. search needs)
+    (λ c κs. search needs) (λ c. search needs) returns)

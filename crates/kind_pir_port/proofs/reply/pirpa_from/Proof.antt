@@ -9,14 +9,9 @@ use Rattle.kind_pir_port.proofs.reply.pirpa_from.Tie as tie
 returns : tie.Need-returns
 unfolding pirpaRow
 returns c =
-    let d = c .before in
-    let b2 = d .before .before in
-    let b3 = b2 .before in
-    let b4 = b3 .before in
-    let b5 = b4 .before in
+    let d = c .before in let b2 = d .before .before in let b3 = b2 .before in let b4 = b3 .before in let b5 = b4 .before in
     let b6 = b5 .before in
-    tells-wrong _ _ _ _ (d .before .near4 .result) (c .refuse .ensures)
-    (rw (
+    tells-wrong _ _ _ _ (d .before .near4 .result) (c .refuse .ensures) (rw (
       ← b6 .needed .ensures,
       ← b5 .near .ensures,
       ← b4 .near2 .ensures,
@@ -28,12 +23,8 @@ returns c =
 returns-2 : tie.Need-returns-2
 unfolding pirpaRow
 returns-2 c =
-    let d = c .before .before .before in
-    let b2 = d .before .before in
-    let b3 = b2 .before in
-    let b4 = b3 .before in
-    let b5 = b4 .before in
-    let b6 = b5 .before in
+    let d = c .before .before .before in let b2 = d .before .before in let b3 = b2 .before in let b4 = b3 .before in
+    let b5 = b4 .before in let b6 = b5 .before in
     tells-right _ _ _ _ _ (c .before .lay .ensures) (rw (
       ← b6 .needed .ensures,
       ← b5 .near .ensures,
@@ -45,16 +36,5 @@ returns-2 c =
 
 pub pirpa-from-spec : {M : Type 1} → statement M
 pirpa-from-spec =
-    tie.close
-    (tie.spec
-    (λ c κs. search needs)
-    (λ c κs. search needs)
-    (λ c κs. search needs)
-    (λ c κs. search needs)
-    (λ c κs. search needs)
-    (λ c κs. search needs)
-    (λ c κs. search needs)
-    returns
-    (λ c κs. search needs)
-    (λ c. search needs)
-    returns-2)
+    tie.close (tie.spec (λ c κs. search needs) (λ c κs. search needs) (λ c κs. search needs) (λ c κs. search needs) (λ c κs. search needs)
+    (λ c κs. search needs) (λ c κs. search needs) returns (λ c κs. search needs) (λ c. search needs) returns-2)

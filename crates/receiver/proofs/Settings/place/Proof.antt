@@ -11,12 +11,8 @@ use Rattle.receiver.proofs.DoesLaws.{does-reply}
 
 returns : tie.Need-returns
 returns c =
-    let b3 = c .before .before .before in
-    let b5 = b3 .before .before in
-    let b6 = b5 .before in
-    let b8 = b6 .before .before in
-    let args = b8 .args in
-    let write = b3 .write in
+    let b3 = c .before .before .before in let b5 = b3 .before .before in let b6 = b5 .before in let b8 = b6 .before .before in
+    let args = b8 .args in let write = b3 .write in
     let same = b5 .datum-told .ensures ∙ ap datumTold (b6 .after-datum .ensures) in
     let told = subst (λ (x : DatumTold). Writes (faultAt (pirtaWrong x)) (pirtaBody x) (args .out .now) (write .result)
     (write .last .0)) same (write .ensures) in
@@ -25,11 +21,5 @@ returns c =
 
 pub place-spec : {M : Type 1} → statement M
 place-spec =
-    tie.close
-    (tie.spec
-    (λ c κs. search needs)
-    (λ c κs. search needs)
-    (λ c κs. search needs)
-    (λ c κs. search needs)
-    (λ c. search needs)
+    tie.close (tie.spec (λ c κs. search needs) (λ c κs. search needs) (λ c κs. search needs) (λ c κs. search needs) (λ c. search needs)
     returns)

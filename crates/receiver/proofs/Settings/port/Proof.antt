@@ -13,13 +13,8 @@ use Rattle.receiver.proofs.DoesLaws.{does-reply}
 
 returns : tie.Need-returns
 returns c =
-    let b3 = c .before .before .before in
-    let b5 = b3 .before .before in
-    let b6 = b5 .before in
-    let b7 = b6 .before in
-    let b9 = b7 .before .before in
-    let args = b9 .args in
-    let write = b3 .write in
+    let b3 = c .before .before .before in let b5 = b3 .before .before in let b6 = b5 .before in let b7 = b6 .before in
+    let b9 = b7 .before .before in let args = b9 .args in let write = b3 .write in
     let same = b5 .port-told .ensures ∙ ap (λ (n : ℕ). portTold (b7 .after-port .result) n) (b6 .named-port .ensures)
     ∙ ap (λ (x : Settings). portTold x (namedPort (args .arrival) (args .r))) (b7 .after-port .ensures) in
     let told = subst (λ (x : PortTold). Writes (faultAt (pirpaWrong x)) (pirpaBody x) (args .out .now) (write .result)
@@ -29,12 +24,5 @@ returns c =
 
 pub port-spec : {M : Type 1} → statement M
 port-spec =
-    tie.close
-    (tie.spec
-    (λ c κs. search needs)
-    (λ c κs. search needs)
-    (λ c κs. search needs)
-    (λ c κs. search needs)
-    (λ c κs. search needs)
-    (λ c. search needs)
-    returns)
+    tie.close (tie.spec (λ c κs. search needs) (λ c κs. search needs) (λ c κs. search needs) (λ c κs. search needs) (λ c κs. search needs)
+    (λ c. search needs) returns)

@@ -11,9 +11,7 @@ use Rattle.receiver.proofs.DoesLaws.{does-reply}
 
 returns : tie.Need-returns
 returns c =
-    let b3 = c .before .before .before in
-    let b5 = b3 .before .before in
-    let b7 = b5 .before .before in
+    let b3 = c .before .before .before in let b5 = b3 .before .before in let b7 = b5 .before .before in
     let told = subst (λ (x : Settings). Writes (faultAt (pirsaWrong (masksTold x))) (pirsaBody (masksTold x)) (b7 .args .out .now)
     (b3 .write .result) (b3 .write .last .0)) (b5 .after-masks .ensures) (b3 .write .ensures) in
     does-reply (b7 .args .self) (afterMasks (b7 .args .self) (b7 .args .r)) _ _ _ _ _ (c .hand-over .result) told

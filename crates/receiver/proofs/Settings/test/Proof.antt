@@ -6,9 +6,7 @@ use Rattle.receiver.proofs.DoesLaws.{does-reply}
 
 returns : tie.Need-returns
 returns c =
-    let b3 = c .before .before .before in
-    let b6 = b3 .before .before .before in
-    let args = b6 .args in
+    let b3 = c .before .before .before in let b6 = b3 .before .before .before in let args = b6 .args in
     does-reply (args .self) (args .self) _ _ _ _ _ (c .hand-over .result) (b3 .write .ensures) (c .hand-over .ensures)
 
 pub test-spec : {M : Type 1} → statement M

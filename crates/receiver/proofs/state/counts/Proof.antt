@@ -13,10 +13,7 @@ returns c =
 
 returns-2 : tie.Need-returns-2
 returns-2 c =
-    let b2 = c .before .before in
-    let b3 = b2 .before in
-    let b4 = b3 .before in
-    let are-good = b3 .are-good in
+    let b2 = c .before .before in let b3 = b2 .before in let b4 = b3 .before in let are-good = b3 .are-good in
     counts-right (b4 .args .s) (sym (are-good .ensures) ∙ not-false (are-good .result) (b2 .if1 .left))
 
 pub counts-spec : {M : Type 1} → statement M

@@ -27,9 +27,7 @@ loop-holds c = (omega arith, (c .before .pre .1 .0, (c .before .pre .1 .1, refl)
 
 same-length : tie.Need-same-length Inv-loop μ-loop
 same-length c =
-    let b4 = c .before .before .before .before in
-    let b8 = b4 .before .before .before .before in
-    let b10 = b8 .before .before in
+    let b4 = c .before .before .before .before in let b8 = b4 .before .before .before .before in let b10 = b8 .before .before in
     b4 .entry-fault .ensures .long ∙ b8 .loop .inv .1 .0 ∙ sym (b10 .pre .1 .0)
 
 returns : tie.Need-returns Inv-loop μ-loop
@@ -67,8 +65,7 @@ loop-again c =
           marks-next (c .before .before .before .before .before .before .before .before .before .before .args .t2 .entries)
               (c .before .before .before .before .before .before .before .before .before .before .args .t2 .count)
               (c .before .before .before .before .before .before .before .before .loop .i) h few blankEntry a
-              (c .before .before .before .before .entry-fault .last .0)
-              (c .before .before .before .before .entry-fault .ensures .marks
+              (c .before .before .before .before .entry-fault .last .0) (c .before .before .before .before .entry-fault .ensures .marks
               (take (c .before .before .before .before .before .before .before .before .loop .i)
               (c .before .before .before .before .before .before .before .before .before .before .args .t2 .entries))
               (c .before .before .before .before .before .before .before .before .loop .inv .1 .1 .0) (c .if1 .left)),
@@ -85,26 +82,12 @@ same-length-2 c = c .before .before .loop .inv .1 .0 ∙ sym (c .before .before 
 
 returns-2 : tie.Need-returns-2 Inv-loop μ-loop
 returns-2 c =
-    let b2 = c .before .before in
-    let b4 = b2 .before .before in
+    let b2 = c .before .before in let b4 = b2 .before .before in
     c .fault .ensures ∙ sym (b2 .loop .inv .1 .1 .1 ∙ fault-end (b4 .args .t2 .entries) (take (b2 .loop .i) (b4 .args .t2 .entries))
     (b4 .args .t2 .count) (b2 .loop .i) (c .before .loop-test .left) ∙ fault-none 0 refl)
 
 pub used-fault-spec : {M : Type 1} → statement M
 used-fault-spec =
-    tie.close
-    (tie.spec
-    Inv-loop
-    μ-loop
-    loop-holds
-    (λ c. omega arith)
-    (λ c. omega arith)
-    (λ c κs. (omega arith, c .before .before .before .loop .inv .1 .0))
-    same-length
-    returns
-    (λ c. omega arith)
-    (λ c. omega arith)
-    loop-again
-    (λ c κs. search needs)
-    same-length-2
-    returns-2)
+    tie.close (tie.spec Inv-loop μ-loop loop-holds (λ c. omega arith) (λ c. omega arith)
+    (λ c κs. (omega arith, c .before .before .before .loop .inv .1 .0)) same-length returns (λ c. omega arith) (λ c. omega arith)
+    loop-again (λ c κs. search needs) same-length-2 returns-2)

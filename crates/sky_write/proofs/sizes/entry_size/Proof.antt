@@ -35,12 +35,4 @@ returns c = omega (arith, c .before .before .value-size .ensures, c .before .val
 
 pub entry-size-spec : {M : Type 1} → statement M
 entry-size-spec =
-    tie.close
-    (tie.spec
-    (λ c κs. search needs)
-    (λ c κs. search needs)
-    (λ c κs. search needs)
-    add-result
-    add-result-2
-    add-result-3
-    returns)
+    tie.close (tie.spec (λ c κs. search needs) (λ c κs. search needs) (λ c κs. search needs) add-result add-result-2 add-result-3 returns)

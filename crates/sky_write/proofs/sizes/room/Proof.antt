@@ -59,20 +59,5 @@ returns c = omega (
 
 pub room-spec : {M : Type 1} → statement M
 room-spec =
-    tie.close
-    (tie.spec
-    Inv-loop
-    μ-loop
-    (λ c. omega arith)
-    (λ c κs. omega arith)
-    cast-size
-    mul-size
-    loop-holds
-    (λ c. omega arith)
-    (λ c. omega arith)
-    (λ c κs. search needs)
-    add-size
-    (λ c. omega arith)
-    (λ c. omega arith)
-    loop-again
-    returns)
+    tie.close (tie.spec Inv-loop μ-loop (λ c. omega arith) (λ c κs. omega arith) cast-size mul-size loop-holds (λ c. omega arith)
+    (λ c. omega arith) (λ c κs. search needs) add-size (λ c. omega arith) (λ c. omega arith) loop-again returns)

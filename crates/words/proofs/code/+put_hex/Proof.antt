@@ -52,19 +52,6 @@ module _ (t : ℕ) where
       (c .before .before .before .before .before .before .before .put-hex .ensures) (c .before .before .put .ensures)
 
 pub +put-hex-spec : {M : Type 1} → statement M
-+put-hex-spec =
-    close
-    μ
-    (λ t.
-    lts.spec
-    (below t, reads.Post, hex-of-reads.Asked, hex-of-reads.Learnt, put-reads.Asked, put-reads.Learnt)
-    (at t)
-    reads.Post
-    (returns t)
-    (one-less t)
-    (smaller t)
-    (fits t)
-    (λ c κs. tt)
-    (λ c κs. tt)
-    (same-length t)
-    (returns-2 t))
++put-hex-spec = close μ (λ t.
+    lts.spec (below t, reads.Post, hex-of-reads.Asked, hex-of-reads.Learnt, put-reads.Asked, put-reads.Learnt) (at t)
+    reads.Post (returns t) (one-less t) (smaller t) (fits t) (λ c κs. tt) (λ c κs. tt) (same-length t) (returns-2 t))

@@ -10,12 +10,11 @@ unfolding codeText
 returns c = rw (
   ← c .before .before .before .before .before .before .before .before .before .before .before .before .width .ensures,
   eq-eqb _ _ (c .before .before .before .before .before .before .before .before .before .before .before .if1 .taken),
-)
-    (rw (
-      c .before .before .before .before .before .before .before .nth-of .ensures,
-      c .before .before .before .nth-of2 .ensures,
-      c .before .before .before .before .before .before .before .before .before .find .ensures,
-    ) at (c .before .before .put-meant .ensures))
+) (rw (
+  c .before .before .before .before .before .before .before .nth-of .ensures,
+  c .before .before .before .nth-of2 .ensures,
+  c .before .before .before .before .before .before .before .before .before .find .ensures,
+) at (c .before .before .put-meant .ensures))
 
 returns-2 : tie.Need-returns-2
 unfolding codeText
@@ -24,17 +23,5 @@ returns-2 c = rw (← c .before .before .before .before .before .width .ensures,
 
 pub put-code-spec : {M : Type 1} → statement M
 put-code-spec =
-    tie.close
-    (tie.spec
-    (λ c κs. search needs)
-    (λ c. search needs)
-    (λ c κs. search needs)
-    (λ c. search needs)
-    (λ c κs. search needs)
-    (λ c κs. search needs)
-    (λ c κs. search needs)
-    (λ c. search needs)
-    returns
-    (λ c κs. search needs)
-    (λ c. search needs)
-    returns-2)
+    tie.close (tie.spec (λ c κs. search needs) (λ c. search needs) (λ c κs. search needs) (λ c. search needs) (λ c κs. search needs)
+    (λ c κs. search needs) (λ c κs. search needs) (λ c. search needs) returns (λ c κs. search needs) (λ c. search needs) returns-2)

@@ -16,12 +16,5 @@ returns c = the-nth (c .before .before .before .before .before .args .d) (c .bef
 
 pub nth-of-spec : {M : Type 1} → statement M
 nth-of-spec =
-    tie.close
-    (tie.spec
-    (λ c κs. search needs)
-    (λ c. search needs)
-    (λ c. search needs)
-    (λ c. search needs)
-    (λ c κs. search needs)
-    slice-aggregate-result
-    returns)
+    tie.close (tie.spec (λ c κs. search needs) (λ c. search needs) (λ c. search needs) (λ c. search needs) (λ c κs. search needs)
+    slice-aggregate-result returns)

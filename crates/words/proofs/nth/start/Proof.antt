@@ -26,10 +26,8 @@ returns c = (
 
 loop-again : tie.Need-loop-again Inv-loop μ-loop
 loop-again c =
-    let d = c .before .before .before .before .before .args .d in
-    let s = c .before .before .before .before .before .args .s .now in
-    let i = c .before .before .before .before .loop .i in
-    let k = c .before .before .before .before .loop .k in
+    let d = c .before .before .before .before .before .args .d in let s = c .before .before .before .before .before .args .s .now in
+    let i = c .before .before .before .before .loop .i in let k = c .before .before .before .before .loop .k in
     let h = c .before .before .before .loop-test .taken in (
       omega arith,
       ⊎-elim (λ w. rw (w .1) (behind-next d s i h k (c .before .before .if1 .left) (w .0 .taken)))
@@ -42,15 +40,5 @@ returns-2 c = (omega arith, behind-end _ _ _ (c .before .loop .k) (c .loop-test 
 
 pub start-spec : {M : Type 1} → statement M
 start-spec =
-    tie.close
-    (tie.spec
-    Inv-loop
-    μ-loop
-    (λ c. (omega arith, refl))
-    returns
-    (λ c. omega arith)
-    (λ c. omega arith)
-    (λ c. omega arith)
-    (λ c. omega arith)
-    loop-again
-    returns-2)
+    tie.close (tie.spec Inv-loop μ-loop (λ c. (omega arith, refl)) returns (λ c. omega arith) (λ c. omega arith) (λ c. omega arith)
+    (λ c. omega arith) loop-again returns-2)

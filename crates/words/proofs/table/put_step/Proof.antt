@@ -21,18 +21,9 @@ returns-3 c = rw (
   ←
       c .before .before .before .before .before .is-silent .ensures,
   c .before .before .before .before .if2 .left,
-)
-    (c .before .before .put .ensures)
+) (c .before .before .put .ensures)
 
 pub put-step-spec : {M : Type 1} → statement M
 put-step-spec =
-    tie.close
-    (tie.spec
-    (λ c κs. search needs)
-    (λ c. search needs)
-    returns
-    (λ c κs. search needs)
-    returns-2
-    (λ c κs. search needs)
-    (λ c. search needs)
-    returns-3)
+    tie.close (tie.spec (λ c κs. search needs) (λ c. search needs) returns (λ c κs. search needs) returns-2 (λ c κs. search needs)
+    (λ c. search needs) returns-3)
