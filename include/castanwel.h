@@ -4,7 +4,7 @@
  * Bytes and numbers are lent as a pointer and how many there are. A pointer is never null, also where there are none. What is lent to be
  * written does not overlap anything else that is lent, and each place for an answer has a value before the call.
  *
- * Each function but castanwel_next_line, castanwel_feed and castanwel_places returns the number of its refusal, 0 where there is none.
+ * Each function but castanwel_next_line, castanwel_feed, castanwel_places and castanwel_run_step returns the number of its refusal, 0 where there is none.
  * `line` and `field` (`at_line`, where `line` is the caller's line) are set to those of the refusal, or to 0. A refusal leaves every other
  * lent number and byte as it was.
  */
@@ -94,6 +94,11 @@ uint8_t castanwel_read(const uint8_t *line, size_t line_len, int64_t *numbers, s
  * kind's writer does. A refusal leaves `out` and `length`. */
 uint8_t castanwel_write(uint32_t kind, const int64_t *numbers, size_t numbers_len, uint8_t *out, size_t out_len, size_t *length,
                         size_t *line, size_t *field);
+
+/* Whether `line`, the next that was found, stands in a run: it reads as GSV. `lines` and `last` say what is open, how many lines it has, 0
+ * where none is, and the number that its first announced as last; they are set to what is open behind the line. `before` is set to whether
+ * the open run ends before the line, `ends` to whether the line's own ends with it. What is open where the lines end is a run too. */
+bool castanwel_run_step(uint32_t *lines, uint32_t *last, const uint8_t *line, size_t line_len, bool *before, bool *ends);
 
 /* Reads the lines in `s` as a group, and stores the 254 numbers of the whole sky at the start of `numbers`. Refused: 1 to 7, then 8 with
  * line 0 where `numbers` is too short. A refusal leaves `numbers`. */

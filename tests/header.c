@@ -42,6 +42,17 @@ static void finds_lines(void) {
     EXPECT(castanwel_line_refusal(BYTES("")) == 1);
 }
 
+static void cuts_into_runs(void) {
+    uint32_t lines = 0, last = 0;
+    bool before = true, ends = true;
+    EXPECT(castanwel_run_step(&lines, &last, BYTES("$GPGSV,5,4,17*7E\r\n"), &before, &ends));
+    EXPECT(!before && !ends && lines == 1 && last == 5);
+    EXPECT(castanwel_run_step(&lines, &last, BYTES(ONE), &before, &ends));
+    EXPECT(before && ends && lines == 0 && last == 0);
+    EXPECT(!castanwel_run_step(&lines, &last, BYTES("$PIRER,0*40\r\n"), &before, &ends));
+    EXPECT(!before && !ends && lines == 0 && last == 0);
+}
+
 static void finds_fields(void) {
     size_t ends[5] = {STALE, STALE, STALE, STALE, STALE};
     size_t start = STALE, end = STALE, at_line = STALE, field = STALE;
@@ -114,6 +125,7 @@ static void keeps_an_index(void) {
 
 int main(void) {
     finds_lines();
+    cuts_into_runs();
     finds_fields();
     reads_and_writes_a_line();
     reads_and_writes_a_group();

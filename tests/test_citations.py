@@ -64,3 +64,22 @@ def test_wrong_programs():
     rows = {row.split("\t")[1] for row in (ROOT / "tests" / "wrong.txt").read_text().splitlines() if "\t" in row}
     found = cited(r"'([a-z]+: [^']+)'")
     none_missing([one for one in found if one[1] not in rows], len(found))
+
+
+def code_of(crate, file):
+    """The source files whose contracts cite a file of definitions: of its crate and those named after it; of any where these have none."""
+    cites = re.compile(r"^ghost use Rattle.%s(?:·specs)?\.specs\.%s\b" % (crate, file), re.MULTILINE)
+    paths = [path for path in sorted((ROOT / "crates").glob("*/src/*.rt")) if cites.search(path.read_text())]
+    near = [path for path in paths if (path.parts[-3] + "_").startswith(crate + "_")]
+    return ["crates/" + "/".join(path.parts[-3:]) for path in near or paths]
+
+
+def test_where_the_code_stands():
+    """The last table of docs/CLAIMS.md has a row for each file of definitions that the page names."""
+    before, _, after = (ROOT / "docs" / "CLAIMS.md").read_text().partition("## Where the code stands\n")
+    named = {one for one in re.findall(r"(?<![\w./-])([a-z_]+)/([A-Z]\w*)", before)
+             if one[0] in CRATES and (ROOT / "crates" / one[0] / "specs" / (one[1] + ".antt")).exists()}
+    rows = [f"| {crate}/{file} | {', '.join(code_of(crate, file)) or '-'} |" for crate, file in sorted(named)]
+    assert len(rows) > 50
+    there = [row for row in after.splitlines() if re.match(r"\| \w+/", row)]
+    assert there == rows, "the table differs in\n" + "\n".join(sorted(set(there) ^ set(rows)))

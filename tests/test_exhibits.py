@@ -175,7 +175,7 @@ def test_a_line_that_the_reader_refuses():
         done(path, "make", "log", "index", data=b"5 %d\n" % number)
         out, said = exhibits(path, "read", "log", "index", "5", status=1)
         assert out == done(path, "show", "log", "index", "5") == LOG[start:start + length]
-        assert said.startswith(b"exhibits: exhibit 5 cannot be read: refused 1 at field 0: the line rule fails"), said
+        assert said.startswith(b"exhibits: exhibit 5 cannot be read: refused 1 at field 0: byte "), said
 
 
 def test_add():

@@ -82,7 +82,7 @@ def test_a_wrong_argument_is_refused_in_words():
     for words in (("log",), ("record",), ("records2",), ("records", "records"), ("",), ("r" * 300,)):
         out, said = run("listing", SOUND, *words, status=1)
         assert out == b"", words
-        assert said.startswith(b"listing: it reads a log from standard input and takes no argument but 'records',"), said
+        assert said.startswith(b"listing: it reads a log from standard input and takes no word, or one: 'records' adds"), said
 
 
 def test_from_another_folder():

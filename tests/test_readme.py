@@ -15,7 +15,7 @@ def shown():
 
 
 def test_commands_give_what_is_shown():
-    for name in ("listing", "exhibits", "standin", "scribe"):
+    for name in ("listing", "skies", "exhibits", "standin", "seal", "scribe"):
         built(name)
     for command, rows in shown():
         done = subprocess.run(["bash", "-c", command], stdout=subprocess.PIPE, stderr=subprocess.STDOUT, cwd=ROOT, timeout=600)

@@ -6,22 +6,13 @@ import time
 import tty
 
 from programs import ROOT, command, run
+from reasons import reason
 from scribe import line_of as line
 from test_second import second
 
 DEADLINE = 60
 START = "4800 4 127 4800 4 127 0 0 4294967295 16777215 0"
 DAMAGED = b"$PIRTR,2,-0030*52\r\n"
-MEANINGS = {
-    1: b"the line rule fails",
-    2: b"the two digits differ from the XOR of the body",
-    3: b"the address is unknown",
-    4: b"the command does not have so many fields",
-    5: b"a field is not of its form or range",
-    9: b"the sentence is not a command",
-    10: b"the protocol of the port is not 4",
-}
-
 
 EXCHANGE = [
     line(b"PIRPR,,,,"), line(b"PIRPR,0,9600,4,007F"), line(b"PIRPR,1,1200,4,0F7F"), line(b"PIRPR,1,,,"), line(b"PIRTR,1,-0030"),
@@ -31,16 +22,17 @@ EXCHANGE = [
 
 
 def expected(lines, port=0):
-    """For each line what the second program answers, settings carried over: a reply, or the row of the refusal."""
+    """For each line what the second program answers, settings carried over: a reply, or the row of the refusal with its reason."""
     settings = START
     answers = []
-    for sent in lines:
+    for number, sent in enumerate(lines, 1):
         words = second("commands", b"%d 82 %s %s\n" % (port, settings.encode(), sent.hex().encode())).split()
         if words[0] == b"ok":
             settings = b" ".join(words[2:]).decode()
             answers.append((bytes.fromhex(words[1].decode()), b""))
         else:
-            answers.append((b"", b" ".join(words) + b": " + MEANINGS[int(words[1])] + b"\n"))
+            no, _, field = (int(word) for word in words[1:])
+            answers.append((b"", b"line %d: refused %d %d: %s\n" % (number, no, field, reason(sent, no, field))))
     return answers
 
 
@@ -119,8 +111,14 @@ def test_all_at_once():
         out, said = run("standin", b"some bytes" + b"noise\r\n".join(EXCHANGE) + b"$PIRER,0*4", *words)
         assert out == b"".join(reply for reply, _ in both)
         assert said == b"".join(row for _, row in both)
-    numbers = {int(row.split()[1]) for _, row in both if row}
-    assert numbers == set(MEANINGS), numbers
+    numbers = {int(row.split()[3]) for _, row in both if row}
+    assert numbers == {1, 2, 3, 4, 5, 9, 10}, numbers
+    assert said.splitlines()[:4] == [
+        b"line 8: refused 9 0: the sentence is not a command",
+        b"line 9: refused 2 0: the two digits differ from the XOR of the body: 51 would be right",
+        b"line 10: refused 1 0: byte 12 is hex 0A: ends with LF alone, CR LF is required",
+        b"line 11: refused 3 0: the address is unknown: 'PIRXX'",
+    ]
 
 
 def test_more_input_than_its_buffer():

@@ -307,8 +307,10 @@ def test_the_status_tells_whether_the_work_was_done():
         run("exhibits", b"", "all", "samples/day.log", index)
         pathlib.Path(folder, "step").write_bytes(b"$PIRTR,1,-0030*52\r\n")
         pathlib.Path(folder, "line").write_bytes(b"line 24\n")
+        pathlib.Path(folder, "body").write_bytes(b"PIRTR,1,-0030\n")
         log = "samples/day.log"
         work = {"listing": ((), (), log), "standin": ((), (), folder + "/step"), "scribe": ((), (), folder + "/line"),
+                "seal": ((), (), folder + "/body"),
                 "exhibits": (("make", log, new), ("list", index), "/dev/null")}
         assert sorted(work) == sorted([*PROGRAMS, "scribe"])
         for name, (reads, writes, data) in work.items():

@@ -2,6 +2,8 @@
 import pathlib
 import re
 
+from reasons import FIELDS, FORMS, SENTENCES
+
 ROOT = pathlib.Path(__file__).resolve().parent.parent
 
 
@@ -22,6 +24,26 @@ def test_rust_says_the_same():
     assert said == dict(enumerate(sentences(), 1))
 
 
-def test_readme_says_the_same():
-    rows = re.findall(r"^\| (\d+) \| (.*) \|$", (ROOT / "README.md").read_text(), re.M)
-    assert [(int(number), words) for number, words in rows] == list(enumerate(sentences(), 1))
+def test_pages_say_the_same():
+    for page in ("README.md", "docs/RULES.md"):
+        rows = re.findall(r"^\| (\d+) \| (.*) \|$", (ROOT / page).read_text(), re.M)
+        assert [(int(number), words) for number, words in rows] == list(enumerate(sentences(), 1)), page
+
+
+def joined(name, file):
+    """A text of a definition, its parts and the texts that it names put together."""
+    text = (ROOT / "crates" / "words" / "specs" / file).read_text()
+    body = re.search(rf"^{name} =(.*?)(?:\n\n|\Z)", text, re.M | re.S).group(1)
+    parts = re.findall(r'(?:ascii )?(\"[^"]*|[a-z]\w+)(?:\"|\b)', body)
+    return "".join(part[1:] if part[0] == '"' else joined(part, file) for part in parts if part != "ascii")
+
+
+def test_fields_are_worded_as_worked_out_apart():
+    kinds = joined("fields", "Fields.antt").split(";")[1:]
+    assert [kind[1:].split("|") for kind in kinds] == [row.split("|") for row in FIELDS.values()]
+    letters, forms = joined("formLetters", "Fields.antt"), joined("forms", "Fields.antt").split(";")
+    assert dict(zip(letters, forms, strict=True)) == {letter: ", " + form for letter, form in FORMS.items()}
+
+
+def test_reasons_say_the_same():
+    assert {number: sentences()[number - 1] for number in SENTENCES} == SENTENCES

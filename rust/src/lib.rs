@@ -25,6 +25,8 @@
 mod ffi;
 #[allow(unsafe_code)]
 mod ffi_index;
+#[allow(unsafe_code)]
+mod ffi_runs;
 mod finder;
 mod from;
 mod index;
@@ -32,6 +34,7 @@ pub mod numbers;
 mod receiver;
 mod records;
 mod refusal;
+mod runs;
 mod sentence;
 mod sky;
 mod values;
@@ -45,6 +48,7 @@ pub use receiver::{Counts, Done, Port, Settings, LONGEST_REPLY};
 pub use records::{CodeAsked, CodeTold, DatumAsked, DatumTold, MasksAsked, MasksTold, PortAsked, PortTold};
 pub use records::{Entry, Gga, Gll, Gsa, Gsv, Rmc, Vtg, Zda};
 pub use refusal::{GroupRefusal, Refusal};
+pub use runs::{skies_from, Run, SkiesFrom};
 pub use sentence::{read, write, Kind, Sentence, Talker};
 pub use sky::{read_group, write_group, Sky, Table, LONGEST_GROUP};
 pub use values::{Date, Kmh, Knots, Mode, Number, Place, Selection, Signed, Status, Time, Zone};

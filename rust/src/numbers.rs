@@ -7,6 +7,7 @@
 
 pub use crate::ffi::{counts, feed, next_line, places, read, read_group, start, step, write, write_group};
 pub use crate::ffi_index::{index_add, index_find, index_read, index_write};
+pub use crate::ffi_runs::run_step;
 
 /// The most numbers that a record has, its talker among them.
 pub const RECORD: usize = 33;

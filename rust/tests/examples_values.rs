@@ -1,5 +1,5 @@
-//! The examples of the documentation comments of values, of the lines of an input and of refusals, as tests; examples.rs sees that each
-//! stands here.
+//! The examples of the documentation comments of values, of the lines and runs of an input and of refusals, as tests; examples.rs sees that
+//! each stands here.
 
 #[test]
 fn words_of_a_refusal() {
@@ -72,4 +72,24 @@ fn zone() {
     assert_eq!(castanwel::Zone { minutes: -30 }.hours(), 0);
     assert_eq!(castanwel::Zone { minutes: -330 }.minutes_past_hour(), -30);
     assert_eq!(castanwel::Zone { minutes: -30 }.minutes_past_hour(), -30);
+}
+
+#[test]
+fn numbers_run_step() {
+    let (mut lines, mut last) = (0, 0);
+    let first = b"$GPGSV,2,1,05,02,10,104,33,05,60,017,47,12,33,201,40,25,04,310,*7A\r\n";
+    assert_eq!(castanwel::numbers::run_step(&mut lines, &mut last, first), (false, true, false));
+    assert_eq!((lines, last), (1, 2));
+    assert_eq!(castanwel::numbers::run_step(&mut lines, &mut last, b"$GPGSV,1,1,00*79\r\n"), (true, true, true));
+    assert_eq!((lines, last), (0, 0));
+}
+
+#[test]
+fn skies_from() {
+    let log = &b"noise$GPGSV,1,1,01,05,,,*7D\r\n$PIRER,0*40\r\n$GPGSV,5,5,17,77,71,048,53*43\r\n"[..];
+    let runs: Vec<castanwel::Run> = castanwel::skies_from(log).collect::<Result<_, _>>().unwrap();
+    assert_eq!((runs[0].number, runs[0].offset), (1, 5));
+    assert_eq!(runs[0].sky.unwrap().table.used()[0].number, 5);
+    assert_eq!((runs[1].number, runs[1].offset), (3, 42));
+    assert_eq!(runs[1].sky.unwrap_err().to_string(), "refusal 6 at line 1: a line does not go with its group");
 }

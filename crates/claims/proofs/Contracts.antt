@@ -26,6 +26,8 @@ use Rattle.line.specs.Line.{lineRefusal}
 use Rattle.numbers.specs.Numbers.{laid}
 use Rattle.receiver.specs.Settings.{atStart}
 use Rattle.receiver_numbers.specs.Numbers.{settingNumbers}
+use Rattle.runs.specs.Runs.{saysOf}
+use Rattle.runs.specs.Step.{openOf, stepOf}
 use Rattle.sentence.specs.FromHost.{leftAs, writtenAs}
 use Rattle.sentence.specs.Lines.{readLine, refusalOf}
 use Rattle.sentence.specs.ToHost.{laidFor, toldFor}
@@ -39,6 +41,7 @@ use Rattle.host.proofs.castanwel_refusal as refusal
 use Rattle.host.proofs.commands.castanwel_start as start
 use Rattle.host.proofs.commands.castanwel_step as step
 use Rattle.host.proofs.commands.castanwel_counts as counts
+use Rattle.host.proofs.cuts.castanwel_run_step as run-step
 use Rattle.host.proofs.groups.castanwel_read_group as read-group
 use Rattle.host.proofs.groups.castanwel_write_group as write-group
 use Rattle.host.proofs.indexes.castanwel_index_write as index-write
@@ -271,3 +274,23 @@ module _ {M : Type 1} (𝓤 : URA M) (H : Heap 𝓤) (A : Atoms 𝓤) (mem : Mem
       × (write.ensures-5 𝓤 H κs A mem run
       ≡ (λ kind _ _ _ _ _ _ numbers′ out′ _ _ _ _. fact 𝓤 (now (out′ .exit) ≡ leftAs kind (now (numbers′ .entry)) (now (out′ .entry)))))
   write-says κs = (refl, refl, refl, refl, refl)
+
+  pub run-step-says : (κs : Lfts 5)
+      → (run-step.ensures-1 𝓤 H κs A mem run
+      ≡ (λ _ _ _ _ _ lines′ last′ line′ _ _ r. fact 𝓤
+      (r ≡ stepOf (openOf (now (lines′ .entry)) (now (last′ .entry))) (saysOf (readLine (now (line′ .entry)))) .joins)))
+      × (run-step.ensures-2 𝓤 H κs A mem run
+      ≡ (λ _ _ _ _ _ lines′ last′ line′ before′ _ _. fact 𝓤
+      (now (before′ .exit) ≡ stepOf (openOf (now (lines′ .entry)) (now (last′ .entry))) (saysOf (readLine (now (line′ .entry)))) .before)))
+      × (run-step.ensures-3 𝓤 H κs A mem run
+      ≡ (λ _ _ _ _ _ lines′ last′ line′ _ ends′ _. fact 𝓤
+      (now (ends′ .exit) ≡ stepOf (openOf (now (lines′ .entry)) (now (last′ .entry))) (saysOf (readLine (now (line′ .entry)))) .ends)))
+      × (run-step.ensures-4 𝓤 H κs A mem run
+      ≡ (λ _ _ _ _ _ lines′ last′ line′ _ _ _. fact 𝓤
+      (now (lines′ .exit)
+      ≡ stepOf (openOf (now (lines′ .entry)) (now (last′ .entry))) (saysOf (readLine (now (line′ .entry)))) .next .lines)))
+      × (run-step.ensures-5 𝓤 H κs A mem run
+      ≡ (λ _ _ _ _ _ lines′ last′ line′ _ _ _. fact 𝓤
+      (now (last′ .exit)
+      ≡ stepOf (openOf (now (lines′ .entry)) (now (last′ .entry))) (saysOf (readLine (now (line′ .entry)))) .next .last)))
+  run-step-says κs = (refl, refl, refl, refl, refl)

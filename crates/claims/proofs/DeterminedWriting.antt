@@ -25,6 +25,7 @@ use Rattle.form_number.specs.Values.{heightText}
 use Rattle.frame.specs.declared.Written.{Written}
 use Rattle.frame.specs.Body.{talkerText}
 use Rattle.frame.specs.Written.{faultAt, refused, Writes}
+use Rattle.bodies.specs.Bodies.{bodyFault, whyOf}
 use Rattle.kind_gsv.specs.declared.Entry.{Entry}
 use Rattle.kind_gsa.specs.declared.Gsa.{Gsa}
 use Rattle.kind_gsv.specs.declared.Gsv.{Gsv}
@@ -108,6 +109,13 @@ put-plain d at v = one-put d at (plainText v)
 
 pub put-number : (d : List ℕ) (at : ℕ) (v : ℕ) → OnePut d at (numberText v)
 put-number d at v = one-put d at (numberText v)
+
+-- bodies
+pub body-write : (body out : List ℕ) → OneWriting (bodyFault body) body out
+body-write body out = one-writing (bodyFault body) body out
+
+pub body-reason : (s : List ℕ) → One (whyOf s)
+body-reason s = one
 
 -- ranges
 pub range-within : (v : ℕ) (lo : ℕ) (hi : ℕ) → One (outside lo hi v)

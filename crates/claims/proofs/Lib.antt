@@ -11,6 +11,8 @@ pub mod DeterminedText
 pub mod Digits
 pub mod Listing
 pub mod Skies
+pub mod Runs
+pub mod DeterminedRuns
 pub mod Commands
 pub mod Replies
 pub mod Faultless
@@ -18,6 +20,8 @@ pub mod DeterminedReceiver
 pub mod DeterminedHost
 pub mod DeterminedIndex
 pub mod DeterminedWords
+pub mod DeterminedReasons
+pub mod Reasons
 pub mod WrongNumbers
 pub mod Exported
 pub mod Field

@@ -17,6 +17,8 @@ use Rattle.sentence.specs.Lines.{readBody, readLine, refusalOf}
 use Rattle.frame.specs.declared.Written.{Written}
 use Rattle.frame.specs.Written.{faultAt, leftOf, refused, Writes, writtenOf, wrote}
 use Rattle.frame.proofs.Sealing.{line-length}
+use Rattle.bodies.specs.Bodies.{bodyFault, isBody}
+use Rattle.bodies.proofs.Laws as Bodies
 use Rattle.kind_gsa.specs.Row.{gsaBody, gsaWrong}
 use Rattle.kind_gsv.specs.Writing.{gsvBody, gsvFault}
 use Rattle.sentence_laws.proofs.Gsa as TGsa
@@ -195,6 +197,18 @@ pirea-back r w h = let d = success w h in rw (line-written w h) (C.pirea .read-w
 pub pirer-back : {out left : List ℕ} {answer : Written} → Writes (faultAt 0) pirerBody out answer left → answer .no ≡ 0
     → readLine (take (answer .length) left) ≡ S.Er
 pirer-back w h = rw (line-written w h) (C.pirer .read-write tt C.pirer-good)
+
+-- Bytes that were framed are a body, and what was written is a line that passes the line rule and has that body.
+pub record Framed (body line : List ℕ) : Type 0 where
+  pub is-body : isBody body ≡ true
+  pub passes : lineRefusal line ≡ 0
+  pub has : bodyOf line ≡ body
+
+pub body-framed : (body : List ℕ) {out left : List ℕ} {answer : Written} → Writes (bodyFault body) body out answer left → answer .no ≡ 0
+    → Framed body (take (answer .length) left)
+body-framed body w h =
+    let b = Bodies.faultless body (success w h .good) in
+    rw (line-written w h) record { is-body = b; passes = Bodies.body-passes body b; has = Bodies.framed-body body }
 
 -- What was read can be written: it is in range, and its line fits.
 pub read-can-be-written : (l : List ℕ) → Rewriting.CanBeWritten (readLine l)

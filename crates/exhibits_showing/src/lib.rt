@@ -46,13 +46,13 @@ fn line_at(logged: &[u8], index: &[u8], buf: &mut [u8], e: Entry) -> usize {
     0
 }
 
-// Says that the reader refuses an exhibit's line, and what the number of the refusal means.
-fn say_refused(exhibit: u64, no: u8, field: u64) {
+// Says that the reader refuses an exhibit's line, and why.
+fn say_refused(exhibit: u64, line: &[u8], no: u8, field: usize) {
     exhibits_says::counted(b"exhibits: exhibit ", exhibit, b" cannot be read: refused ");
     exhibits_says::counted(b"", no as u64, b" at field ");
-    exhibits_says::counted(b"", field, b": ");
-    let mut row = [0u8; 160];
-    let a = words::put_refusal(&mut row, 0, no);
+    exhibits_says::counted(b"", field as u64, b": ");
+    let mut row = [0u8; 400];
+    let a = reasons::put_reason(&mut row, 0, line, no, field);
     let n = put::put(&mut row, a, 10);
     turns::flush(STDERR_FILENO, &row, n);
 }
@@ -75,7 +75,7 @@ fn show_fields(exhibit: u64, line: &[u8]) {
     let mut numbers = [0i64; 33];
     let told = read(line, &mut numbers);
     if told.no != 0 {
-        return say_refused(exhibit, told.no, told.field as u64);
+        return say_refused(exhibit, line, told.no, told.field);
     }
     let mut out = io::buffer();
     let n = put_fields(&mut out, told.kind, &numbers);

@@ -28,7 +28,7 @@ length-replicate : (n : ℕ) → length {A = ℕ} (replicate n 0) ≡ n
 length-replicate zero = refl
 length-replicate (suc n) = ap suc (length-replicate n)
 
-some : (s : List ℕ) → 1 ≤ length (fieldsOf s)
+pub some : (s : List ℕ) → 1 ≤ length (fieldsOf s)
 some s = let r = first-field s in rw (r .2) (omega arith)
 
 module _ (s : List ℕ) (n : ℕ) (room : length (fieldsOf s) ≤ n) where

@@ -71,7 +71,8 @@ fn put_talker(out: &mut [u8], t: Talker) -> usize
     }
 }
 
-fn xor_of(s: &[u8]) -> u8
+// The XOR of the bytes of `s`.
+pub fn xor_of(s: &[u8]) -> u8
     ensures { λ r. ⌜ r ≡ xorOf (now (s .entry)) ⌝ }
 {
     let mut xor: u8 = 0;

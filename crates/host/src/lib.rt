@@ -1,6 +1,7 @@
 // The library's functions as Rust or C calls them, on numbers and lent bytes.
 mod answers;
 pub mod commands;
+pub mod cuts;
 pub mod groups;
 pub mod indexes;
 pub mod sentences;

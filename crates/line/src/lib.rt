@@ -15,7 +15,7 @@ fn is_plain(b: u8) -> bool
 }
 
 // Whether `b` may stand in a body.
-fn may_stand(b: u8) -> bool
+pub fn may_stand(b: u8) -> bool
     ensures { λ r. ⌜ r ≡ bodyByte b ⌝ }
 {
     let other = (b != b'!') & ((b != b'\\') & ((b != b'^') & (b != b'~')));

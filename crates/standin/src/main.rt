@@ -6,41 +6,32 @@ use libc::STDIN_FILENO;
 use libc::STDOUT_FILENO;
 use receiver::Settings;
 
-// Puts what a number of refusal means.
-fn put_meaning(out: &mut [u8], at: usize, no: u8) -> usize {
-    match no {
-        1 => put::put_bytes(out, at, b"the line rule fails"),
-        2 => put::put_bytes(out, at, b"the two digits differ from the XOR of the body"),
-        3 => put::put_bytes(out, at, b"the address is unknown"),
-        4 => put::put_bytes(out, at, b"the command does not have so many fields"),
-        5 => put::put_bytes(out, at, b"a field is not of its form or range"),
-        8 => put::put_bytes(out, at, b"the output is shorter than the reply"),
-        9 => put::put_bytes(out, at, b"the sentence is not a command"),
-        10 => put::put_bytes(out, at, b"the protocol of the port is not 4"),
-        _ => put::put_bytes(out, at, b"no meaning is known"),
-    }
+// Puts the number of a line, counted from 1.
+fn put_line(out: &mut [u8], number: u64) -> usize {
+    let a1 = put::put_bytes(out, 0, b"line ");
+    let a2 = text::put_number(out, a1, number);
+    put::put_bytes(out, a2, b": refused ")
 }
 
+// Puts the number of a refusal and its field.
 fn put_numbers(out: &mut [u8], at: usize, w: Written) -> usize {
-    let a1 = put::put_bytes(out, at, b"refused ");
-    let a2 = text::put_number(out, a1, w.no as u64);
-    let a3 = put::put_bytes(out, a2, b" ");
-    let a4 = text::put_number(out, a3, w.line as u64);
-    let a5 = put::put_bytes(out, a4, b" ");
-    text::put_number(out, a5, w.field as u64)
+    let a1 = text::put_number(out, at, w.no as u64);
+    let a2 = put::put(out, a1, b' ');
+    let a3 = text::put_number(out, a2, w.field as u64);
+    put::put_bytes(out, a3, b": ")
 }
 
-// Puts the row of a refusal, ended by LF.
-fn put_refusal(out: &mut [u8], w: Written) -> usize {
-    let a1 = put_numbers(out, 0, w);
-    let a2 = put::put_bytes(out, a1, b": ");
-    let a3 = put_meaning(out, a2, w.no);
-    put::put_bytes(out, a3, b"\n")
+// Puts the row of a refusal, ended by LF: `line 3: refused 2 0: ` and why.
+fn put_refusal(out: &mut [u8], number: u64, line: &[u8], w: Written) -> usize {
+    let a1 = put_line(out, number);
+    let a2 = put_numbers(out, a1, w);
+    let a3 = reasons::put_reason(out, a2, line, w.no, w.field);
+    put::put(out, a3, b'\n')
 }
 
-fn say_refusal(w: Written) {
-    let mut row = [0u8; 160];
-    let n = put_refusal(&mut row, w);
+fn say_refusal(number: u64, line: &[u8], w: Written) {
+    let mut row = [0u8; 400];
+    let n = put_refusal(&mut row, number, line, w);
     turns::flush(STDERR_FILENO, &row, n);
 }
 
@@ -50,8 +41,8 @@ struct Answered {
     written: bool,
 }
 
-// Writes the reply to a line, or the row of its refusal.
-fn answer_line(s: Settings, arrival: u32, line: &[u8]) -> Answered {
+// Writes the reply to line `number`, or the row of its refusal.
+fn answer_line(s: Settings, arrival: u32, number: u64, line: &[u8]) -> Answered {
     let mut out = [0u8; 82];
     let done = receiver::step(s, arrival, line, &mut out);
     let settings = done.settings;
@@ -60,23 +51,31 @@ fn answer_line(s: Settings, arrival: u32, line: &[u8]) -> Answered {
         let written = turns::flush(STDOUT_FILENO, &out, w.length);
         return Answered { settings, written };
     }
-    say_refusal(w);
+    say_refusal(number, line, w);
     Answered {
         settings,
         written: true,
     }
 }
 
-// What answering some bytes leaves: the settings, where the bytes to keep begin, and whether all could be written.
+// What answering some bytes leaves: the settings, how many lines there were so far, where the bytes to keep begin, and whether all
+// could be written.
 struct Heard {
     settings: Settings,
+    lines: u64,
     from: usize,
     written: bool,
 }
 
-// Answers each line of `s`.
-fn answer_lines(s: &[u8], first: Settings, arrival: u32) -> Heard {
+// The number after `n`; after the last of 64 bits there is none but itself.
+fn next(n: u64) -> u64 {
+    if n < u64::MAX { n + 1 } else { n }
+}
+
+// Answers each line of `s`, behind `before` lines.
+fn answer_lines(s: &[u8], first: Settings, before: u64, arrival: u32) -> Heard {
     let mut settings = first;
+    let mut lines = before;
     let mut at: usize = 0;
     let mut written = true;
     loop {
@@ -85,23 +84,27 @@ fn answer_lines(s: &[u8], first: Settings, arrival: u32) -> Heard {
         if !found.line {
             return Heard {
                 settings,
+                lines,
                 from: start,
                 written,
             };
         }
         let end = found.end;
-        let answered = answer_line(settings, arrival, &s[start..end]);
+        lines = next(lines);
+        let answered = answer_line(settings, arrival, lines, &s[start..end]);
         settings = answered.settings;
         written = written & answered.written;
         at = end;
     }
 }
 
-// What one turn of reading leaves: whether to go on, the bytes kept at the start of the buffer, and the settings.
+// What one turn of reading leaves: whether to go on, the bytes kept at the start of the buffer, the settings, and how many lines there
+// were so far.
 struct Turn {
     more: bool,
     kept: usize,
     settings: Settings,
+    lines: u64,
 }
 
 fn stop(settings: Settings) -> Turn {
@@ -109,6 +112,7 @@ fn stop(settings: Settings) -> Turn {
         more: false,
         kept: 0,
         settings,
+        lines: 0,
     }
 }
 
@@ -138,11 +142,12 @@ fn go_on(buf: &mut [u8], heard: Heard, n: usize) -> Turn {
         more: true,
         kept: turns::keep(buf, from, n),
         settings,
+        lines: heard.lines,
     }
 }
 
 // Reads once and answers the lines that are whole.
-fn take_turn(buf: &mut [u8], kept: usize, s: Settings, arrival: u32) -> Turn {
+fn take_turn(buf: &mut [u8], kept: usize, s: Settings, lines: u64, arrival: u32) -> Turn {
     let n = read_more(buf, kept);
     if n <= kept {
         return stop(s);
@@ -150,7 +155,7 @@ fn take_turn(buf: &mut [u8], kept: usize, s: Settings, arrival: u32) -> Turn {
     if buf.len() < n {
         return stop(s);
     }
-    let heard = answer_lines(&buf[0..n], s, arrival);
+    let heard = answer_lines(&buf[0..n], s, lines, arrival);
     go_on(buf, heard, n)
 }
 
@@ -160,13 +165,15 @@ fn answer_all(buf: &mut [u8], arrival: u32) {
     let mut settings = receiver::state::at_start();
     let mut left = u64::MAX;
     let mut kept: usize = 0;
+    let mut lines: u64 = 0;
     while 0 < left {
-        let t = take_turn(buf, kept, settings, arrival);
+        let t = take_turn(buf, kept, settings, lines, arrival);
         if !t.more {
             return;
         }
         kept = t.kept;
         settings = t.settings;
+        lines = t.lines;
         left -= 1;
     }
 }

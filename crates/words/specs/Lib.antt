@@ -1,4 +1,5 @@
 pub mod Nth
+pub mod Fields
 pub mod Codes
 pub mod Forms
 pub mod Table

@@ -1,8 +1,9 @@
 // The fields of a sentence in words, for one who reads an exhibit. Each function writes into a lent buffer from
 // the place `at` on, as far as there is room, leaves all other bytes, and answers the next place.
 mod code;
+pub mod fields;
 mod form;
-mod nth;
+pub mod nth;
 mod table;
 
 ghost use mathlib.Core.Path.{_≡_};

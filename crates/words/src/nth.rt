@@ -23,7 +23,7 @@ fn start(s: &[u8], d: u8, n: usize) -> usize
 }
 
 // Text `n` of `s`, counted from 0; nothing where there are not so many.
-pub(crate) fn nth_of<'a>(s: &'a [u8], d: u8, n: usize) -> &'a [u8]
+pub fn nth_of<'a>(s: &'a [u8], d: u8, n: usize) -> &'a [u8]
     ensures { λ r. ⌜ now r ≡ nth d n (now (s .entry)) ⌝ }
 {
     let from = start(s, d, n);

@@ -13,18 +13,18 @@ use Rattle.listing.proofs.list_lines.Statement.{statement}
 use Rattle.listing.proofs.list_lines.Tie as tie
 
 abbrev Inv-loop : tie.InvT-loop
-Inv-loop s out₀ rows dumps number₀ at₀ place₀ written₀ out number at place written = (at ≤ length s) × (openLine (take at s) ≡ [])
+Inv-loop s out₀ dumps beside number₀ at₀ place₀ written₀ out number at place written = (at ≤ length s) × (openLine (take at s) ≡ [])
     × (length out ≡ length out₀)
 
 abbrev μ-loop : tie.MeasureT-loop
-μ-loop s out₀ rows dumps number₀ at₀ place₀ written₀ out number at place written = length s - at
+μ-loop s out₀ dumps beside number₀ at₀ place₀ written₀ out number at place written = length s - at
 
 loop-holds : tie.Need-loop-holds Inv-loop μ-loop
 unfolding openLine afterLast fromLast
 loop-holds c = (omega arith, refl, refl)
 
 -- a line that was found: it lies in `s`, and past it no line is open
-at-line : (c : tie.Else1 Inv-loop μ-loop) → NextLine (c .before .before .before .before .before .before .args .s .now)
+at-line : (c : tie.Else1 Inv-loop μ-loop) → NextLine (c .before .before .before .before .before .before .before .args .s .now)
     (c .before .before .before .loop .at) (c .before .before .next-line .result)
 at-line c =
     let b2 = c .before .before in let b3 = b2 .before in let e = b2 .next-line .ensures in

@@ -6,10 +6,10 @@ use Rattle.standin.proofs.answer_all.Statement.{statement}
 use Rattle.standin.proofs.answer_all.Tie as tie
 
 abbrev Inv-loop : tie.InvT-loop
-Inv-loop buf₀ arrival settings₀ left₀ kept₀ buf settings left kept = (length buf ≡ length buf₀)
+Inv-loop buf₀ arrival settings₀ left₀ kept₀ lines₀ buf settings left kept lines = (length buf ≡ length buf₀)
 
 abbrev μ-loop : tie.MeasureT-loop
-μ-loop buf₀ arrival settings₀ left₀ kept₀ buf settings left kept = left
+μ-loop buf₀ arrival settings₀ left₀ kept₀ lines₀ buf settings left kept lines = left
 
 pub answer-all-spec : {M : Type 1} → statement M
 answer-all-spec =

@@ -13,10 +13,10 @@ use Rattle.standin.proofs.answer_lines.Statement.{statement}
 use Rattle.standin.proofs.answer_lines.Tie as tie
 
 abbrev Inv-loop : tie.InvT-loop
-Inv-loop s arrival settings₀ at₀ written₀ settings at written = (at ≤ length s) × (openLine (take at s) ≡ [])
+Inv-loop s before arrival settings₀ lines₀ at₀ written₀ settings lines at written = (at ≤ length s) × (openLine (take at s) ≡ [])
 
 abbrev μ-loop : tie.MeasureT-loop
-μ-loop s arrival settings₀ at₀ written₀ settings at written = length s - at
+μ-loop s before arrival settings₀ lines₀ at₀ written₀ settings lines at written = length s - at
 
 loop-holds : tie.Need-loop-holds Inv-loop μ-loop
 unfolding openLine afterLast fromLast
@@ -34,7 +34,8 @@ starts c = rw (c .before .before .next-line .ensures) (slice-within _ _ (c .befo
 
 pub answer-lines-spec : {M : Type 1} → statement M
 answer-lines-spec =
-    tie.close (tie.spec Inv-loop μ-loop loop-holds (λ c κs. search needs) (λ c. tt) (λ c. starts c)
-    (λ c. let i = starts c in search needs) (λ c. let n = at-line c in let e = n .within in search needs) (λ c κs. search needs)
-    (λ c. let n = at-line (c .before .before .before .before) in omega (arith, n .onward, n .within))
-    (λ c. let n = at-line (c .before .before .before .before) in (n .within, n .shut)))
+    tie.close (tie.spec Inv-loop μ-loop loop-holds (λ c κs. search needs) (λ c. tt) (λ c κs. search needs)
+    (λ c. starts (c .before)) (λ c. let i = starts (c .before) in search needs)
+    (λ c. let n = at-line (c .before) in let e = n .within in search needs) (λ c κs. search needs)
+    (λ c. let n = at-line (c .before .before .before .before .before) in omega (arith, n .onward, n .within))
+    (λ c. let n = at-line (c .before .before .before .before .before) in (n .within, n .shut)))

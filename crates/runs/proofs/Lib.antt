@@ -1,0 +1,4 @@
+pub mod Laws
+pub mod Folded
+pub mod Steps
+pub mod Whole
