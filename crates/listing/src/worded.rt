@@ -7,6 +7,10 @@ use libc::STDOUT_FILENO;
 use tally::Tally;
 ghost use mathlib.Core.Path.{_≡_};
 ghost use lib.ListN.{length};
+ghost use Rattle.put.specs.Wrote.{held, Puts};
+ghost use Rattle.sentence.specs.Lines.{readLine};
+ghost use Rattle.rows_words.specs.Worded.{wordedText};
+ghost use Rattle.tally.specs.Tally.{plus};
 
 // One more at place `i` of `counts`, if it has one.
 fn count(counts: &mut [u64], i: usize)
@@ -25,7 +29,12 @@ fn list_line(
     beside: Tally,
     number: u64,
     line: &[u8],
-) -> usize {
+) -> usize
+    ensures { λ r. ⌜ Puts (held place (now (out .entry)))
+        (wordedText (beside .bytes) (plus (beside .rows) 1) number (now (line .entry)) (readLine (now (line .entry))))
+        (held r (now (out .exit))) ⌝ }
+    ensures { λ _. ⌜ length (now (counts .exit)) ≡ length (now (counts .entry)) ⌝ }
+{
     let mut numbers = [0i64; 33];
     let told = sentence::read(line, &mut numbers);
     count(counts, told.no as usize);

@@ -85,4 +85,5 @@ list-lines-spec =
     (λ c κs. search needs) same-length same-length-2 (λ c. tt) (λ c κs. search needs) (λ c. starts (c .before .before .before))
     (λ c. let i = starts (c .before .before .before) in search needs)
     (λ c. let n = at-line (c .before .before .before) in let e = n .within in search needs) (λ c κs. search needs)
-    (λ c. starts (c .before .before .before .before .before .before .before .before .before)) (λ c κs. search needs) (λ c κs. search needs) (λ c κs. search needs) less loop-again less-2 loop-again-2)
+    (λ c. starts (c .before .before .before .before .before .before .before .before .before)) (λ c κs. search needs)
+    (λ c κs. search needs) (λ c κs. search needs) less loop-again less-2 loop-again-2)
