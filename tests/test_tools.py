@@ -309,8 +309,8 @@ def test_the_status_tells_whether_the_work_was_done():
         pathlib.Path(folder, "line").write_bytes(b"line 24\n")
         pathlib.Path(folder, "body").write_bytes(b"PIRTR,1,-0030\n")
         log = "samples/day.log"
-        work = {"listing": ((), (), log), "standin": ((), (), folder + "/step"), "scribe": ((), (), folder + "/line"),
-                "seal": ((), (), folder + "/body"),
+        work = {"listing": ((), (), log), "skies": ((), (), log), "standin": ((), (), folder + "/step"),
+                "scribe": ((), (), folder + "/line"), "seal": ((), (), folder + "/body"),
                 "exhibits": (("make", log, new), ("list", index), "/dev/null")}
         assert sorted(work) == sorted([*PROGRAMS, "scribe"])
         for name, (reads, writes, data) in work.items():
