@@ -1,5 +1,5 @@
--- The rows by what a host is told, who lends room for every record, are the rows of the sentence: a sentence that was read has no reason, and
--- a refused one is told its number and field.
+-- The rows by what a host is told, who lends room for every record, are the rows of the sentence: a sentence that was read has no reason,
+-- and a refused one is told its number and field.
 use Prim.Native.Nat.{ℕ}
 use mathlib.Core.Bool.{Bool, true, false}
 use mathlib.Core.List.{List, _++_}

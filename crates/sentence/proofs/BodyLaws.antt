@@ -41,10 +41,6 @@ use Rattle.form.specs.Row.{Row}
 use Rattle.form.specs.Kind.{readBy}
 use Rattle.sentence.specs.Lines.{addressed, makerOf, readBody, standardOf}
 
--- Every body has a field, its address.
-pub some-field : (b : List ℕ) → 1 ≤ length (fieldsOf b)
-some-field b = rw (first-field b .2) (omega arith)
-
 abbrev miscounted : Sentence
 miscounted = Refused 4 0
 

@@ -54,7 +54,8 @@ pub fn put_words(out: &mut [u8], at: usize, kind: u32, numbers: &[i64]) -> usize
         ;position: %p\ntime of day: %t UTC\nstatus: %S\nmode: %M\n\
         ;selection: %A\nfix: %F\nsatellite 1: %n\nsatellite 2: %n\nsatellite 3: %n\nsatellite 4: %n\n\
         satellite 5: %n\nsatellite 6: %n\nsatellite 7: %n\nsatellite 8: %n\n\
-        satellite 9: %n\nsatellite 10: %n\nsatellite 11: %n\nsatellite 12: %n\nposition dilution: %k\nhorizontal dilution: %k\nvertical dilution: %k\n\
+        satellite 9: %n\nsatellite 10: %n\nsatellite 11: %n\nsatellite 12: %n\n\
+        position dilution: %k\nhorizontal dilution: %k\nvertical dilution: %k\n\
         ;lines: %N\nthis line: %N\nsatellites in view: %N\nsatellites on this line: %N\n\
         ;time of day: %t UTC\nstatus: %S\nposition: %p\nspeed: %k knots\ntrue course: %k degrees\n\
         date: %d\nmagnetic variation: %v\nmode: %M\n\

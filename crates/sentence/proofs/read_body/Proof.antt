@@ -4,7 +4,8 @@ use native.Mathlib.Omega.{arith}
 use Rattle.numbers.proofs.Rows.{tells-as}
 use Rattle.sentence.specs.Sentence.{Sentence}
 use Rattle.sentence.specs.ToHost.{handed}
-use Rattle.sentence.proofs.BodyLaws.{read-few, read-few-maker, read-many, read-many-maker, read-unknown, some-field}
+use Rattle.fields.proofs.AllFields.{some}
+use Rattle.sentence.proofs.BodyLaws.{read-few, read-few-maker, read-many, read-many-maker, read-unknown}
 use Rattle.sentence.proofs.Telling.{refused-as}
 use borrow.Author.Needs.{needs}
 use Rattle.sentence.proofs.read_body.Statement.{statement}
@@ -32,7 +33,7 @@ returns-3 c =
 sub-n : tie.Need-sub-n
 sub-n c =
     let start = c .before .before .before .before in
-    omega (arith, start .pre .fields, some-field (start .args .s .now))
+    omega (arith, start .pre .fields, some (start .args .s .now))
 
 returns-4 : tie.Need-returns-4
 returns-4 c =
