@@ -18,7 +18,6 @@ use Rattle.address.specs.declared.Talker.{Talker}
 use Rattle.address.specs.Address.{addressOf}
 use Rattle.fields.specs.Fields.{fieldsOf}
 use Rattle.fields.specs.Places.{fieldsBy, Placed, theFields}
-use Rattle.fields.proofs.Splitting.{first-field}
 use Rattle.fields.proofs.AllFields.{all-fields}
 use Rattle.sentence.specs.Sentence as S
 use Rattle.sentence.specs.Sentence.{Refused, Sentence}
