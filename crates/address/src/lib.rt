@@ -1,4 +1,6 @@
 // The address of a sentence: who talks, and which kind it is.
+#![tactic(auto)]
+
 ghost use Rattle.std.specs.Prelude.{◌≡◌, length};
 ghost use Rattle.address.specs.Address.{kind_of, pir_of, known_of, address_of, standard, maker};
 

@@ -1,4 +1,6 @@
 // Bytes that are to be the body of a line: the line of a body, and why bytes are none.
+#![tactic(auto)]
+
 ghost use Rattle.std.specs.Prelude.{◌≡◌};
 ghost use Rattle.frame.specs.Written.{Writes};
 ghost use Rattle.bodies.specs.Bodies.{body_fault, is_body, other_in, why_of};

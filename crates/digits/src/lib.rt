@@ -1,4 +1,6 @@
 // Digits and fixed bytes, as every layer above reads and writes them.
+#![tactic(auto)]
+
 pub mod pair;
 pub mod sign;
 

@@ -1,4 +1,6 @@
 // The fields of a line's body, and field n of a line.
+#![tactic(auto)]
+
 ghost use Rattle.std.specs.Prelude.{◌≡◌};
 ghost use Rattle.fields.specs.Places.{Placed, field_in, place_in};
 ghost use Rattle.fields.specs.Part.{PartAt};

@@ -1,4 +1,6 @@
 // The line finder: where a line begins and ends in a stream of bytes.
+#![tactic(auto)]
+
 ghost use Rattle.std.specs.Prelude.{◌≡◌};
 ghost use Rattle.finder.specs.Finder.{fed_of};
 ghost use Rattle.finder.specs.Slice.{found_at};

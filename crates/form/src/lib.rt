@@ -1,4 +1,6 @@
 // What every form of a field has: a reading, a value, a range and a text; and rows of forms, of which a kind of sentence is made.
+#![tactic(auto)]
+
 pub mod from_numbers;
 pub mod got;
 pub mod keep;

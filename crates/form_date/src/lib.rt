@@ -1,4 +1,6 @@
 // Dates and time zones.
+#![tactic(auto)]
+
 pub mod dates;
 pub mod from_numbers;
 pub mod keep;

@@ -1,4 +1,6 @@
 // Numbers in thousandths, and digits of a fixed width; speeds in knots and in km/h are kept apart.
+#![tactic(auto)]
+
 pub mod fixed;
 pub mod from_numbers;
 pub mod keep;

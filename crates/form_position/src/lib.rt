@@ -1,4 +1,6 @@
 // Positions: latitude and longitude with their letters; and the magnetic variation.
+#![tactic(auto)]
+
 pub mod from_numbers;
 pub mod keep;
 pub mod range;

@@ -1,4 +1,6 @@
 // The line around a body: `$`, the body, `*`, the two digits of its XOR, CR, LF; and the refusals of a writer.
+#![tactic(auto)]
+
 ghost use Rattle.std.specs.Prelude.{◌%◌, ◌/◌, [], ◌++◌, ◌∷◌, ◌≡◌, take};
 ghost use Rattle.digits.specs.Hex.{hex_of};
 ghost use Rattle.put.specs.Wrote.{held, Puts};

@@ -1,4 +1,6 @@
 // The index beside a log: which line each exhibit is, by the exhibit's number.
+#![tactic(auto)]
+
 pub mod reading;
 pub mod writing;
 

@@ -1,5 +1,7 @@
 // Numbers in groups of seven bits: the low group first, the high bit of a byte set when another group follows, in the
 // shortest form only.
+#![tactic(auto)]
+
 ghost use Rattle.std.specs.Prelude.{◌<◌, ◌≡◌, drop, length};
 ghost use Rattle.put.specs.Wrote.{held, Puts};
 ghost use Rattle.index_sevens.specs.Places.{taken_at};

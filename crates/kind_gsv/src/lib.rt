@@ -1,4 +1,6 @@
 // GSV: the number of lines, this line, the number of satellites, and up to four of them.
+#![tactic(auto)]
+
 pub mod blank;
 
 ghost use Rattle.std.specs.Prelude.{◌≤◌, ◌≡◌, [], leb, length};

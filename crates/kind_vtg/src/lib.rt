@@ -1,4 +1,6 @@
 // VTG: true and magnetic course, speed in knots and in km/h, and mode.
+#![tactic(auto)]
+
 ghost use Rattle.std.specs.Prelude.{◌≡◌};
 ghost use Rattle.put.specs.Wrote.{held, Puts, PutsFields};
 ghost use Rattle.fields.specs.Places.{fields_by};

@@ -1,4 +1,6 @@
 // The line rule, for every slice of bytes, sound or damaged.
+#![tactic(auto)]
+
 ghost use Rattle.std.specs.Prelude.{◌≡◌, ◌&&◌, cond, leb, length, set};
 ghost use Rattle.std.proofs.lemmas.List.Edits.{sets};
 ghost use Rattle.line.specs.Line.{body_byte, body_bytes, xor_of, edge_form, end_form, end_gives, line_refusal};

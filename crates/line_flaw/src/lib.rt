@@ -1,4 +1,6 @@
 // Why a line fails the line rule: the first part of the rule that does not hold, and where.
+#![tactic(auto)]
+
 ghost use Rattle.std.specs.Prelude.{◌≤◌, ◌≡◌, length};
 ghost use Rattle.line_flaw.specs.Flaw.{end_parts, first_failing, flaw_of, forbidden};
 

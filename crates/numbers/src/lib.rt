@@ -1,4 +1,6 @@
 // Numbers in a lent slice, as values cross to a host: 64 bits with a sign, one a value.
+#![tactic(auto)]
+
 ghost use Rattle.std.specs.Prelude.{◌≡◌, leb, pos, length, get_or};
 ghost use Rattle.numbers.specs.Told.{gives, Tells, told};
 ghost use Rattle.numbers.specs.Numbers.{is_there, is_mark, is_whole, whole_of, signed_of, laid, talker_number, talker_of};

@@ -1,4 +1,6 @@
 // The class receiver: its settings, and what a command makes of them.
+#![tactic(auto)]
+
 pub mod state;
 
 ghost use Rattle.std.specs.Prelude.{cond, ◌≡◌};

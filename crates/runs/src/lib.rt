@@ -1,4 +1,6 @@
 // Runs of satellite lines: the lines of a log that are taken together before it is asked whether they are a group.
+#![tactic(auto)]
+
 ghost use Rattle.std.specs.Prelude.{◌≡◌};
 ghost use Rattle.sentence.specs.Lines.{read_line};
 ghost use Rattle.runs.specs.Runs.{says_of};

@@ -1,5 +1,7 @@
 // The group: a satellite list of one line or of several. What a whole sky is, what one byte of damage does to it,
 // and what its reader and its writer share.
+#![tactic(auto)]
+
 pub mod marks;
 
 ghost use Rattle.std.specs.Prelude.{◌≡◌, ◌≤◌};

@@ -1,4 +1,6 @@
 // The group reader: lines in order, read as a whole sky or not at all.
+#![tactic(auto)]
+
 mod repeats;
 
 ghost use Rattle.std.specs.Prelude.{true, [], ◌≡◌, length};

@@ -1,4 +1,6 @@
 // What a log holds beside its lines: bytes passed over, and lines that were begun and not given out.
+#![tactic(auto)]
+
 ghost use Rattle.std.specs.Prelude.{cond, ◌≡◌, eqb};
 ghost use Rattle.tally.specs.Tally.{ended, nothing, one, pass_all, pass_one, plus, take};
 
