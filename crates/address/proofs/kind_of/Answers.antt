@@ -1,4 +1,5 @@
 -- `kind_of` meets its contract: each test that fails leaves the rows after it, and the one that holds is the row found.
+use mathlib.Core.Option.{none}
 use mathlib.Core.List.{List}
 use Prim.Native.Nat.{ℕ}
 use mathlib.Core.Path.{◌≡◌, sym, ◌∙◌, ap, refl}

@@ -1,4 +1,5 @@
 -- `pir_of` meets its contract, as `kind_of` does: the rows of the table one after the other.
+use mathlib.Core.Option.{none}
 use mathlib.Core.List.{List}
 use Prim.Native.Nat.{ℕ}
 use mathlib.Core.Path.{◌≡◌, sym, ◌∙◌, ap, refl}
