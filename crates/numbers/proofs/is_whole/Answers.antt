@@ -3,11 +3,7 @@ use borrow.Author.Rules.{rules}
 use mir.Syntax.{w64}
 use mir.Facts.{to_z-of_z}
 use Rattle.numbers.proofs.Fitting.{whole_is}
-use Rattle.numbers.proofs.is_whole.Statement.{statement}
-use Rattle.numbers.proofs.is_whole.Tie as tie
+use Rattle.numbers.proofs.is_whole.Goals as goal
 
-returns : tie.Need-returns
+pub returns : goal.returns
 returns c = rw (to_z-of_z {w = w64} {z = c.args.n} (search rules)) (whole_is c.args.n)
-
-pub is-whole-spec : {M : Type 1} → statement M
-is-whole-spec = tie.close (tie.spec returns)
