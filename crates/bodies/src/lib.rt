@@ -54,7 +54,7 @@ fn other_in(s: &[u8]) -> usize
 
 // Why bytes are no body: there are none, there are too many, or one of them, at its place counted from 0, may not stand in a
 // body; nothing where they are a body.
-#[derive(Drop)]
+#[derive(Clone, Copy)]
 pub enum Why {
     Nothing,
     Empty,

@@ -9,7 +9,7 @@ pub mod text;
 pub mod unit;
 
 // A value that may be missing: a time in hundredths of a second, a count, a station, a setting.
-#[derive(Drop)]
+#[derive(Clone, Copy)]
 pub struct Maybe {
     pub there: bool,
     pub value: u32,

@@ -9,7 +9,7 @@ pub mod split;
 pub mod text;
 pub mod zones;
 
-#[derive(Drop)]
+#[derive(Clone, Copy)]
 pub struct Date {
     pub there: bool,
     pub day: u32,
@@ -18,7 +18,7 @@ pub struct Date {
 }
 
 // A time zone in signed minutes.
-#[derive(Drop)]
+#[derive(Clone, Copy)]
 pub struct Zone {
     pub there: bool,
     pub minutes: i32,

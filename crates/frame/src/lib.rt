@@ -12,7 +12,7 @@ use address::Talker;
 
 // What a writer answers: the length of the line that it wrote; or the number of its refusal with line and
 // field, and then length 0.
-#[derive(Drop)]
+#[derive(Clone, Copy)]
 pub struct Written {
     pub no: u8,
     pub line: usize,

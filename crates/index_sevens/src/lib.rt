@@ -9,7 +9,7 @@ ghost use Rattle.index_sevens.specs.Sevens.{onto, sevens, take_groups, take_seve
 
 // What stands at a place: a number, and the place behind it; a number whose bytes end too soon, so that more may come;
 // or bytes that no number begins with.
-#[derive(Drop)]
+#[derive(Clone, Copy)]
 pub enum Taken {
     Value(u64, usize),
     Short,

@@ -16,7 +16,7 @@ use form_position::{Place, Position};
 use frame::Written;
 use numbers::Told;
 
-#[derive(Drop)]
+#[derive(Clone, Copy)]
 pub struct Gga {
     pub time: Maybe,
     pub place: Place,

@@ -15,7 +15,7 @@ use form_position::{Place, Position};
 use frame::Written;
 use numbers::Told;
 
-#[derive(Drop)]
+#[derive(Clone, Copy)]
 pub struct Gll {
     pub place: Place,
     pub time: Maybe,

@@ -21,7 +21,7 @@ use form_number::Number;
 use frame::Written;
 use numbers::Told;
 
-#[derive(Drop)]
+#[derive(Clone, Copy)]
 pub struct Gsa {
     pub selection: u32,
     pub fix: u32,
@@ -113,7 +113,7 @@ pub fn at(n: &[i64]) -> Gsa
 }
 
 // The twelve satellites, and the first wrong field from theirs on.
-#[derive(Drop)]
+#[derive(Clone, Copy)]
 struct Twelve {
     wrong: usize,
     satellites: [Maybe; 12],

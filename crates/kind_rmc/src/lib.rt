@@ -18,7 +18,7 @@ use form_position::{Place, Position};
 use frame::Written;
 use numbers::Told;
 
-#[derive(Drop)]
+#[derive(Clone, Copy)]
 pub struct Rmc {
     pub time: Maybe,
     pub status: u32,

@@ -14,7 +14,7 @@ use form_number::{Kmh, Knots, Number};
 use frame::Written;
 use numbers::Told;
 
-#[derive(Drop)]
+#[derive(Clone, Copy)]
 pub struct Vtg {
     pub course: Number,
     pub magnetic: Number,

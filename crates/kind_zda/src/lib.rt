@@ -16,7 +16,7 @@ use form_date::{Date, Zone};
 use frame::Written;
 use numbers::Told;
 
-#[derive(Drop)]
+#[derive(Clone, Copy)]
 pub struct Zda {
     pub time: Maybe,
     pub date: Date,

@@ -31,7 +31,7 @@ pub fn store(p: &mut [usize], n: usize, i: usize)
 }
 
 // What one pass over a body finds: whether its bytes may all stand in a body, their XOR, and how many fields it has.
-#[derive(Drop)]
+#[derive(Clone, Copy)]
 struct Found {
     good: bool,
     xor: u8,
@@ -114,7 +114,7 @@ fn judged(good: bool, gives: bool) -> u8
 }
 
 // What one pass over a line finds: what the line rule says of it, and how many fields its body has.
-#[derive(Drop)]
+#[derive(Clone, Copy)]
 pub struct Passed {
     pub no: u8,
     pub count: usize,

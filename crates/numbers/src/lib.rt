@@ -35,7 +35,7 @@ pub fn lay(out: &mut [i64], values: &[i64]) -> bool
 }
 
 // What a host is told of a line: 0 and its kind, or a refusal with its field; its numbers stand beside it.
-#[derive(Drop)]
+#[derive(Clone, Copy)]
 pub struct Told {
     pub no: u8,
     pub kind: u32,
