@@ -11,13 +11,13 @@ use Rattle.bodies.proofs.is_body.Goals as goal
 
 pub slice_bounds-line_refusal-end : goal.slice_bounds-line_refusal-end
 slice_bounds-line_refusal-end c =
-    let framed : Writes (wrote 0) c.args.s.now (replicate 82 0) c.finish-w.result c.finish-w.new.0 =
+    let framed : Writes (wrote 0) c.args.s.now (replicate 82 0) c.finish-w.result c.finish-w.new.out =
     as-framed c.args.s.now (c.fault.ensures ∙ no-fault) c.finish-w.ensures in
     let e = framed-within _ _ refl (framed) in search rules
 
 pub returns : goal.returns
 returns c =
-    let framed : Writes (wrote 0) c.args.s.now (replicate 82 0) c.finish-w.result c.finish-w.new.0 =
+    let framed : Writes (wrote 0) c.args.s.now (replicate 82 0) c.finish-w.result c.finish-w.new.out =
     as-framed c.args.s.now (c.fault.ensures ∙ no-fault) c.finish-w.ensures in
     ap (λ (n : ℕ). eqb n 0) c.line_refusal.ensures
     ∙ rw (sub-zero c.finish-w.result.length) (framed-rule _ _ refl

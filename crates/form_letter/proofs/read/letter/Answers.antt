@@ -3,4 +3,4 @@ use mathlib.Core.Path.{◌∙◌}
 use Rattle.form_letter.proofs.read.letter.Goals as goal
 
 pub returns : goal.returns
-returns c = c.told.ensures ∙ rw c.one_of_lem.ensures
+returns c = c.told.ensures ∙ rw c.one_of.ensures
