@@ -6,7 +6,7 @@ use Rattle.index.proofs.Answering.{scan-none, scan-whole, read_none, read-full, 
 use Rattle.index.proofs.reading.read.Goals as goal
 
 pub returns-then-not-scanned : goal.returns-then-not-scanned
-returns-then-not-scanned c =let said = read_none (read_index c.args.s.now) c.args.entries.now
+returns-then-not-scanned c = let said = read_none (read_index c.args.s.now) c.args.entries.now
     (scan-none (read_index c.args.s.now) c.scan-scanned.result c.scan-scanned.ensures (not-true _ c.if-not-scanned.true)) c.listing.ensures in
     record {
       value = said.0;
@@ -37,6 +37,6 @@ lay_all-requires c = let x = scan-whole (read_index c.args.s.now) c.scan-scanned
 pub returns : goal.returns
 returns c = let x = scan-whole (read_index c.args.s.now) c.scan-scanned.result c.scan-scanned.ensures (not-false _ c.if-not-scanned.false) in record {
   value = read_all (read_index c.args.s.now) c.args.entries.now x.reads (omega (arith, x.count, c.if-entries-scanned.false)) x.count
-          c.listing-2.ensures;
+      c.listing-2.ensures;
   entries_after = c.lay_all.ensures;
 }
