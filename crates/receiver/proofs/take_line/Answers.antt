@@ -15,26 +15,26 @@ returns-then-told-ne0 c =
 
 pub returns-in-8 : goal.returns-in-8
 returns-in-8 c =
-    subst (λ (x : Sentence). Does c.args.s (sentence_outcome c.args.s c.args.arrival x) c.args.out.now c.port.result c.port.new.?)
+    subst (λ (x : Sentence). Does c.args.s (sentence_outcome c.args.s c.args.arrival x) c.args.out.now c.port.result c.port.new.out)
     (ap S.Pr c.at.ensures
     ∙ sym (line-port c.args.line.now _ refl c.read-told.result _ (c.read-told.ensures.value, c.read-told.ensures.numbers_after) c.if-told-ne0.false c.in-8.is)) c.port.ensures
 
 pub returns-in-9 : goal.returns-in-9
 returns-in-9 c =
-    subst (λ (x : Sentence). Does c.args.s (sentence_outcome c.args.s c.args.arrival x) c.args.out.now c.place.result c.place.new.?)
+    subst (λ (x : Sentence). Does c.args.s (sentence_outcome c.args.s c.args.arrival x) c.args.out.now c.place.result c.place.new.out)
     (ap S.Tr c.at-in-9.ensures
     ∙ sym (line-datum c.args.line.now _ refl c.read-told.result _ (c.read-told.ensures.value, c.read-told.ensures.numbers_after) c.if-told-ne0.false c.in-9.is)) c.place.ensures
 
 pub returns-in-10 : goal.returns-in-10
 returns-in-10 c =
     subst (λ (x : Sentence). Does c.args.s (sentence_outcome c.args.s c.args.arrival x) c.args.out.now c.satellites.result
-    c.satellites.new.?) (ap S.Sr c.at-in-10.ensures
+    c.satellites.new.out) (ap S.Sr c.at-in-10.ensures
     ∙ sym (line-masks c.args.line.now _ refl c.read-told.result _ (c.read-told.ensures.value, c.read-told.ensures.numbers_after) c.if-told-ne0.false
     c.in-10.is)) c.satellites.ensures
 
 pub returns-in-11 : goal.returns-in-11
 returns-in-11 c =
-    subst (λ (x : Sentence). Does c.args.s (sentence_outcome c.args.s c.args.arrival x) c.args.out.now c.test.result c.test.new.?)
+    subst (λ (x : Sentence). Does c.args.s (sentence_outcome c.args.s c.args.arrival x) c.args.out.now c.test.result c.test.new.out)
     (sym (line_code c.args.line.now _ refl c.read-told.result _ (c.read-told.ensures.value, c.read-told.ensures.numbers_after) c.if-told-ne0.false c.in-11.is)) c.test.ensures
 
 pub returns-in_default : goal.returns-in_default
