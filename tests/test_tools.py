@@ -324,6 +324,7 @@ ENDS = {
 def test_what_the_gate_lets_pass():
     with clone() as small:
         script(small.root / "tools" / "host", "#!/bin/sh\necho 3 passed, 0 failed\n")
+        script(small.root / "tools" / "edits", "#!/bin/sh\n")
         (small.root / "tests").mkdir()
         (small.root / "tests" / "run.py").write_text("print('1 passed, 0 failed')\n")
         for (row, last, status), wanted in ENDS.items():
@@ -336,7 +337,7 @@ def test_what_the_gate_lets_pass():
 
 def test_what_the_gate_has_proved_is_not_proved_again():
     with clone() as small:
-        for name, text in (("tools/host", "echo 3 passed, 0 failed"), ("crates/tiny/out/tiny", 'echo "$@"')):
+        for name, text in (("tools/host", "echo 3 passed, 0 failed"), ("tools/edits", ""), ("crates/tiny/out/tiny", 'echo "$@"')):
             script(small.root / name, f"#!/bin/sh\n{text}\n")
         (small.root / "tests").mkdir()
         (small.root / "tests" / "run.py").write_text("print('1 passed, 0 failed')\n")
