@@ -58,7 +58,7 @@ def bare(node):
             merged.append(word)
         elif word == ".new":
             merged[-1] = ["exit", merged[-1]]
-        elif word not in (".now", ".old"):
+        elif word not in (".entry", ".now", ".old"):
             merged[-1] = [merged[-1], word]
     return merged[0] if len(merged) == 1 else merged
 

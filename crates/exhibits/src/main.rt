@@ -1,4 +1,6 @@
 // The exhibits of a log: an index beside it, which opens by exhibit number.
+#![tactic(auto)]
+
 use exhibits_lists::Parsed;
 
 #[derive(Drop)]

@@ -1,4 +1,6 @@
 // The command of the program exhibits that adds an entry at the end of an index.
+#![tactic(auto)]
+
 use index::Entry;
 
 // Says why an entry does not fit behind the last of the index.

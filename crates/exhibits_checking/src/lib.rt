@@ -1,4 +1,6 @@
 // The command of the program exhibits that says whether an index and a log belong together.
+#![tactic(auto)]
+
 use exhibits_walks::entries::Step;
 use exhibits_walks::lines::There;
 use index::Entry;

@@ -1,4 +1,5 @@
 // The commands of the program exhibits that make an index: it is written to a new file beside it, which gets the name when it is whole.
+#![tactic(auto)]
 
 // Says why nothing is made, where that was not said yet.
 fn say_trouble(no: u8, logged: &[u8], name: &[u8]) {

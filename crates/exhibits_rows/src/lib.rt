@@ -1,4 +1,6 @@
 // The list on standard input, of any length, row by row.
+#![tactic(auto)]
+
 use exhibits_lists::Row;
 use libc::STDIN_FILENO;
 use turns::Came;

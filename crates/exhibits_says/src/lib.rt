@@ -1,4 +1,6 @@
 // What the program exhibits says on standard error: rows that begin with its name.
+#![tactic(auto)]
+
 pub mod files;
 
 use libc::STDERR_FILENO;

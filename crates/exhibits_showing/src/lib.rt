@@ -1,4 +1,6 @@
 // The commands of the program exhibits that show what an index says.
+#![tactic(auto)]
+
 use exhibits_walks::entries::Step;
 use exhibits_walks::lines::There;
 use index::Entry;

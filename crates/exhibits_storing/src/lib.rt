@@ -1,4 +1,6 @@
 // Entries stored behind one another in a new file: every line of a log, or those that the list on standard input names.
+#![tactic(auto)]
+
 use exhibits_lists::{Asked, Row};
 use exhibits_walks::lines::Walk;
 use index::Entry;

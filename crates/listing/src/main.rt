@@ -1,4 +1,6 @@
 // The listing of a log: standard input of any length, and a row for each line found in it.
+#![tactic(auto)]
+
 mod worded;
 
 ghost use Rattle.put.specs.Wrote.{held, Puts};

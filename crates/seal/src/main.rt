@@ -1,5 +1,7 @@
 // The lines of bodies: each row on standard input is a body and comes out as its line; for a row that cannot be the body of a
 // line a row on standard error tells why.
+#![tactic(auto)]
+
 use bodies::Why;
 use libc::{STDERR_FILENO, STDIN_FILENO, STDOUT_FILENO};
 use turns::Came;

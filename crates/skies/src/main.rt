@@ -1,5 +1,7 @@
 // The skies of a log: standard input of any length, and for each run of satellite lines found in it the whole sky, with a
 // row for each satellite, or why it is none.
+#![tactic(auto)]
+
 use exhibits_walks::lines::{Step, Walk};
 use index::Entry;
 use libc::{STDERR_FILENO, STDIN_FILENO, STDOUT_FILENO};

@@ -1,5 +1,7 @@
 // The stand-in receiver for class: commands on standard input, replies on standard output, and a row on standard error
 // for each refusal.
+#![tactic(auto)]
+
 use frame::Written;
 use libc::{STDERR_FILENO, STDIN_FILENO, STDOUT_FILENO};
 use receiver::Settings;

@@ -1,4 +1,6 @@
 // What the programs that read in turns share: writing a part of a buffer, and keeping a part for the next turn.
+#![tactic(auto)]
+
 ghost use Rattle.std.specs.Prelude.{length};
 ghost use Rattle.turns.specs.Turns.{Keeps, Flushes, Comes};
 
