@@ -207,7 +207,7 @@ def functions():
 
 def clause(text):
     """The name of a clause, if it has one, and what it says, from the text behind `ensures`."""
-    name = re.match(r" *(\w*)\s*(?=\{)", text)
+    name = re.match(r"\*? *(\w*)\s*(?=\{)", text)
     return name.group(1), " ".join(text[name.end() + 1:name.end() + closing(text[name.end():])].split())
 
 
