@@ -22,4 +22,4 @@ abbrev pub Comes : ℕ → ℕ → Came → Type 0
 Comes kept room (Bytes n) = (kept < n) × (n ≤ room)
 Comes kept room End = kept < room
 Comes kept room Full = room ≤ kept
-Comes kept room Failed = kept < room
+Comes kept room (Failed e) = kept < room
