@@ -1,4 +1,6 @@
 // Files of any length gone over in turns, in a buffer that the caller lends: the lines of a log, the entries of an index.
+#![tactic(auto)]
+
 pub mod entries;
 pub mod lines;
 
