@@ -1,4 +1,6 @@
 // Numbers and rows as a person writes them: on a command line, and in the list that an index is made from.
+#![tactic(auto)]
+
 ghost use Rattle.std.specs.Prelude.{◌+◌, ◌≤◌, ◌≡◌, drop, length};
 ghost use Rattle.digits.specs.Decimal.{digits_from};
 ghost use Rattle.exhibits_lists.specs.Lists.{asked_of, blanks, body_length, body_of, follows_of, is_blank, is_padded, number, number_of};

@@ -169,7 +169,7 @@ pub fn at_entry<F: Read + Seek>(log: &mut F, buf: &mut [u8], e: Entry) -> There 
     }
     let n = e.length as usize;
     match read_at(log, &mut buf[0..n], e.offset) {
-        Err(e) => return There::Failed(e),
+        Err(why) => return There::Failed(why),
         Ok(got) => {
             if got != n {
                 return There::Other;
