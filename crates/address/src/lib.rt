@@ -1,9 +1,11 @@
 // The address of a sentence: who talks, and which kind it is.
+#![tactic(auto)]
+
 ghost use Rattle.std.specs.Prelude.{◌≡◌, length};
 ghost use Rattle.address.specs.Address.{kind_of, pir_of, known_of, address_of, standard, maker};
 
 // The talkers of the five satellite systems' receivers.
-#[derive(Drop)]
+#[derive(Clone, Copy)]
 pub enum Talker {
     Gp,
     Gl,
@@ -13,7 +15,7 @@ pub enum Talker {
 }
 
 // The seven types of sentence that any of them sends.
-#[derive(Drop)]
+#[derive(Clone, Copy)]
 pub enum Kind {
     Gga,
     Gll,
@@ -25,7 +27,7 @@ pub enum Kind {
 }
 
 // The maker's own sentences: four commands and their replies.
-#[derive(Drop)]
+#[derive(Clone, Copy)]
 pub enum Pir {
     Pr,
     Tr,
@@ -37,7 +39,7 @@ pub enum Pir {
     Ea,
 }
 
-#[derive(Drop)]
+#[derive(Clone, Copy)]
 pub enum Address {
     Standard(Talker, Kind),
     Maker(Pir),

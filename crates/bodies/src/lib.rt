@@ -1,4 +1,6 @@
 // Bytes that are to be the body of a line: the line of a body, and why bytes are none.
+#![tactic(auto)]
+
 ghost use Rattle.std.specs.Prelude.{◌≡◌};
 ghost use Rattle.frame.specs.Written.{Writes};
 ghost use Rattle.bodies.specs.Bodies.{body_fault, is_body, other_in, why_of};
@@ -52,7 +54,7 @@ fn other_in(s: &[u8]) -> usize
 
 // Why bytes are no body: there are none, there are too many, or one of them, at its place counted from 0, may not stand in a
 // body; nothing where they are a body.
-#[derive(Drop)]
+#[derive(Clone, Copy)]
 pub enum Why {
     Nothing,
     Empty,

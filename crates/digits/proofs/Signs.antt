@@ -34,7 +34,7 @@ module _ (z : ℤ) (f : SFits w32 z) where
   widened = rw (to_z-of_z f) (sfits_widen tt f)
 
   inner : to_z w64 (of_z w64 (to_z w32 (of_z w32 z))) ≡ z
-  inner = ap (λ (y : ℤ). to_z w64 (of_z w64 y)) (to_z-of_z f) ∙ to_z-of_z (sfits_widen tt f)
+  inner = ap (λ (y : ℤ). to_z w64 (of_z w64 y)) (to_z-of_z f) ∙ to_z-of_z {w = w64} (sfits_widen tt f)
 
   pub negated : SFits w64 (pos 0 -ℤ to_z w64 (of_z w64 (to_z w32 (of_z w32 z))))
   negated = rw (inner, +ℤ_idl) (neg-fits z f)

@@ -1,4 +1,6 @@
 // Digits and fixed bytes, as every layer above reads and writes them.
+#![tactic(auto)]
+
 pub mod pair;
 pub mod sign;
 
@@ -55,7 +57,7 @@ pub fn find(s: &[u8], b: u8) -> usize
 }
 
 // A number that was read, or bytes that are none.
-#[derive(Drop)]
+#[derive(Clone, Copy)]
 pub enum Num {
     Is(u32),
     Bad,

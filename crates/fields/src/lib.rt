@@ -1,4 +1,6 @@
 // The fields of a line's body, and field n of a line.
+#![tactic(auto)]
+
 ghost use Rattle.std.specs.Prelude.{◌≡◌};
 ghost use Rattle.fields.specs.Places.{Placed, field_in, place_in};
 ghost use Rattle.fields.specs.Part.{PartAt};
@@ -66,7 +68,7 @@ pub fn address_refusal(line: &[u8]) -> u8
 
 // Field `n` after the address: the part of the caller's line from `start` up to `end`, and `no` is 0. Refused, it is an empty part,
 // from 0 up to 0, beside its number.
-#[derive(Drop)]
+#[derive(Clone, Copy)]
 pub struct Field {
     pub no: u8,
     pub start: usize,

@@ -1,4 +1,6 @@
 // The line finder: where a line begins and ends in a stream of bytes.
+#![tactic(auto)]
+
 ghost use Rattle.std.specs.Prelude.{◌≡◌};
 ghost use Rattle.finder.specs.Finder.{fed_of};
 ghost use Rattle.finder.specs.Slice.{found_at};
@@ -6,7 +8,7 @@ ghost use Rattle.finder.specs.Until.{held_in, ended_in, reach_of};
 
 // The finder after a byte: how many bytes it holds, and the length of the line that this byte
 // ends, 0 where it ends none. The caller holds the bytes themselves.
-#[derive(Drop)]
+#[derive(Clone, Copy)]
 pub struct Fed {
     pub held: usize,
     pub line: usize,
@@ -43,7 +45,7 @@ pub fn feed(held: usize, b: u8) -> Fed
 // The first line of a slice from a place on: where it starts and ends. Where there is none, `line` is false,
 // `end` is the end of the slice, or the place itself where that lies beyond it, and an unfinished line begins at
 // `start`, which is `end` where nothing is unfinished.
-#[derive(Drop)]
+#[derive(Clone, Copy)]
 pub struct Found {
     pub line: bool,
     pub start: usize,

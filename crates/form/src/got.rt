@@ -7,7 +7,7 @@ use digits::Num;
 
 // Which of the fields is wrong, counted from 1, or 0 for none; where none is, whether the value was sent, that is, not all
 // of its fields are empty; and the value, 0 where it is missing or wrong.
-#[derive(Drop)]
+#[derive(Clone, Copy)]
 pub struct Got {
     pub wrong: u8,
     pub there: bool,
@@ -15,7 +15,7 @@ pub struct Got {
 }
 
 // The same of a value with a sign.
-#[derive(Drop)]
+#[derive(Clone, Copy)]
 pub struct GotInt {
     pub wrong: u8,
     pub there: bool,

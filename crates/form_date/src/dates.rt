@@ -11,7 +11,7 @@ use digits::Num;
 
 // Which of the fields is wrong, counted from 1, or 0 for none; whether the date is there; and its
 // parts, 0 where it is missing or wrong.
-#[derive(Drop)]
+#[derive(Clone, Copy)]
 pub struct GotDate {
     pub wrong: u8,
     pub there: bool,

@@ -1,4 +1,6 @@
 // Dates and time zones.
+#![tactic(auto)]
+
 pub mod dates;
 pub mod from_numbers;
 pub mod keep;
@@ -7,7 +9,7 @@ pub mod split;
 pub mod text;
 pub mod zones;
 
-#[derive(Drop)]
+#[derive(Clone, Copy)]
 pub struct Date {
     pub there: bool,
     pub day: u32,
@@ -16,7 +18,7 @@ pub struct Date {
 }
 
 // A time zone in signed minutes.
-#[derive(Drop)]
+#[derive(Clone, Copy)]
 pub struct Zone {
     pub there: bool,
     pub minutes: i32,

@@ -1,4 +1,6 @@
 // Positions: latitude and longitude with their letters; and the magnetic variation.
+#![tactic(auto)]
+
 pub mod from_numbers;
 pub mod keep;
 pub mod range;
@@ -9,7 +11,7 @@ pub mod text;
 // Which of the four fields is wrong, counted from 1, or 0 for none; whether the position is there;
 // and both values in ten-thousandths of a minute, south and west negative, 0 where it is missing
 // or wrong.
-#[derive(Drop)]
+#[derive(Clone, Copy)]
 pub struct Position {
     pub wrong: u8,
     pub there: bool,
@@ -18,7 +20,7 @@ pub struct Position {
 }
 
 // A position in signed ten-thousandths of a minute, south and west negative.
-#[derive(Drop)]
+#[derive(Clone, Copy)]
 pub struct Place {
     pub there: bool,
     pub lat: i32,

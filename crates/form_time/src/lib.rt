@@ -1,3 +1,5 @@
 // A time of day, in hundredths of a second.
+#![tactic(auto)]
+
 pub mod read;
 pub mod text;

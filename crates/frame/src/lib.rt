@@ -1,4 +1,6 @@
 // The line around a body: `$`, the body, `*`, the two digits of its XOR, CR, LF; and the refusals of a writer.
+#![tactic(auto)]
+
 ghost use Rattle.std.specs.Prelude.{◌%◌, ◌/◌, [], ◌++◌, ◌∷◌, ◌≡◌, take};
 ghost use Rattle.digits.specs.Hex.{hex_of};
 ghost use Rattle.put.specs.Wrote.{held, Puts};
@@ -10,7 +12,7 @@ use address::Talker;
 
 // What a writer answers: the length of the line that it wrote; or the number of its refusal with line and
 // field, and then length 0.
-#[derive(Drop)]
+#[derive(Clone, Copy)]
 pub struct Written {
     pub no: u8,
     pub line: usize,

@@ -1,4 +1,6 @@
 // The library's functions as Rust or C calls them, on numbers and lent bytes.
+#![tactic(auto)]
+
 mod answers;
 pub mod commands;
 pub mod cuts;

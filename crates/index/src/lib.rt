@@ -1,4 +1,6 @@
 // The index beside a log: which line each exhibit is, by the exhibit's number.
+#![tactic(auto)]
+
 pub mod reading;
 pub mod writing;
 
@@ -14,7 +16,7 @@ ghost use Rattle.index.specs.declared.Next.TheVariants as N;
 use index_sevens::Taken;
 
 // An exhibit's number, the byte offset of its line in the log, and the line's length.
-#[derive(Drop)]
+#[derive(Clone, Copy)]
 pub struct Entry {
     pub number: u64,
     pub offset: u64,
@@ -105,7 +107,7 @@ fn size(last: Entry, e: Entry) -> usize
 
 // What stands at a place behind an entry: the next entry, and the place behind it; an entry whose bytes end too soon,
 // so that more may come; or bytes that no entry begins with.
-#[derive(Drop)]
+#[derive(Clone, Copy)]
 pub enum Next {
     Is(Entry, usize),
     Short,

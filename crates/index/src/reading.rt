@@ -10,7 +10,7 @@ ghost use Rattle.index.specs.Places.{laid_at, Lays, LaysOn, Low, Passes, Quick, 
 use crate::{Entry, Next};
 
 // What reading an index answers: how many entries it has; or the number of the refusal, and then count 0.
-#[derive(Drop)]
+#[derive(Clone, Copy)]
 pub struct Listed {
     pub no: u8,
     pub line: usize,
@@ -47,7 +47,7 @@ pub fn read(s: &[u8], entries: &mut [u64]) -> Listed
 }
 
 // What finding an exhibit answers: the offset and length of its line; or the number of the refusal, and then zeros.
-#[derive(Drop)]
+#[derive(Clone, Copy)]
 pub struct Found {
     pub no: u8,
     pub line: usize,
@@ -79,7 +79,7 @@ fn found_next(best: Found, number: u64, e: Entry) -> Found
 }
 
 // What going over an index once gives: whether it is one, how many entries it has and the last of them.
-#[derive(Drop)]
+#[derive(Clone, Copy)]
 pub struct Scanned {
     pub whole: bool,
     pub count: usize,
@@ -87,7 +87,7 @@ pub struct Scanned {
 }
 
 // The same, with what was found.
-#[derive(Drop)]
+#[derive(Clone, Copy)]
 struct Walked {
     scanned: Scanned,
     best: Found,
@@ -139,7 +139,7 @@ fn is_quick(s: &[u8], at: usize, number: u64, end: u64, wanted: u64) -> bool
 }
 
 // A place in an index: behind how many entries it is, and the last of them.
-#[derive(Drop)]
+#[derive(Clone, Copy)]
 struct Place {
     at: usize,
     count: usize,
@@ -226,7 +226,7 @@ pub fn find(s: &[u8], number: u64) -> Found
 }
 
 // A place in an index behind an entry with a number and an end, and the place behind the numbers that are laid.
-#[derive(Drop)]
+#[derive(Clone, Copy)]
 struct Laid {
     at: usize,
     number: u64,

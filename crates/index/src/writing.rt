@@ -60,7 +60,7 @@ fn three(entries: &[u64], i: usize) -> Entry
 }
 
 // A place in the numbers behind an entry with a number and an end, and how many bytes the entries before the place take.
-#[derive(Drop)]
+#[derive(Clone, Copy)]
 struct Reached {
     at: usize,
     number: u64,

@@ -1,5 +1,7 @@
 // Numbers in groups of seven bits: the low group first, the high bit of a byte set when another group follows, in the
 // shortest form only.
+#![tactic(auto)]
+
 ghost use Rattle.std.specs.Prelude.{◌<◌, ◌≡◌, drop, length};
 ghost use Rattle.put.specs.Wrote.{held, Puts};
 ghost use Rattle.index_sevens.specs.Places.{taken_at};
@@ -7,7 +9,7 @@ ghost use Rattle.index_sevens.specs.Sevens.{onto, sevens, take_groups, take_seve
 
 // What stands at a place: a number, and the place behind it; a number whose bytes end too soon, so that more may come;
 // or bytes that no number begins with.
-#[derive(Drop)]
+#[derive(Clone, Copy)]
 pub enum Taken {
     Value(u64, usize),
     Short,

@@ -1,4 +1,6 @@
 // GLL: position, time, status and mode.
+#![tactic(auto)]
+
 ghost use Rattle.std.specs.Prelude.{◌≡◌};
 ghost use Rattle.put.specs.Wrote.{held, Puts, PutsFields};
 ghost use Rattle.fields.specs.Places.{fields_by};
@@ -13,7 +15,7 @@ use form_position::{Place, Position};
 use frame::Written;
 use numbers::Told;
 
-#[derive(Drop)]
+#[derive(Clone, Copy)]
 pub struct Gll {
     pub place: Place,
     pub time: Maybe,

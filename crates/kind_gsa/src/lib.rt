@@ -1,4 +1,6 @@
 // GSA: selection, fix, twelve satellites, PDOP, HDOP and VDOP.
+#![tactic(auto)]
+
 ghost use Rattle.std.specs.Prelude.{[], ◌∷◌, ◌≡◌};
 ghost use Rattle.put.specs.Wrote.{held, Puts, PutsFields};
 ghost use Rattle.fields.specs.Places.{fields_by};
@@ -19,7 +21,7 @@ use form_number::Number;
 use frame::Written;
 use numbers::Told;
 
-#[derive(Drop)]
+#[derive(Clone, Copy)]
 pub struct Gsa {
     pub selection: u32,
     pub fix: u32,
@@ -111,7 +113,7 @@ pub fn at(n: &[i64]) -> Gsa
 }
 
 // The twelve satellites, and the first wrong field from theirs on.
-#[derive(Drop)]
+#[derive(Clone, Copy)]
 struct Twelve {
     wrong: usize,
     satellites: [Maybe; 12],

@@ -1,4 +1,6 @@
 // GSV: the number of lines, this line, the number of satellites, and up to four of them.
+#![tactic(auto)]
+
 pub mod blank;
 
 ghost use Rattle.std.specs.Prelude.{◌≤◌, ◌≡◌, [], leb, length};
@@ -21,7 +23,7 @@ use frame::Written;
 use numbers::Told;
 
 // A satellite of a GSV sentence; blank is all zero and missing.
-#[derive(Drop)]
+#[derive(Clone, Copy)]
 pub struct Entry {
     pub number: u32,
     pub elevation: Maybe,
@@ -30,7 +32,7 @@ pub struct Entry {
 }
 
 // `count` entries are used, the places after them are blank.
-#[derive(Drop)]
+#[derive(Clone, Copy)]
 pub struct Gsv {
     pub lines: u32,
     pub line: u32,
@@ -132,7 +134,7 @@ pub fn at(n: &[i64]) -> Gsv
 
 // A satellite that was read of four fields: which of them is wrong, counted from 1, or 0; blank where
 // one is wrong.
-#[derive(Drop)]
+#[derive(Clone, Copy)]
 pub struct GotEntry {
     pub wrong: u8,
     pub entry: Entry,

@@ -13,7 +13,7 @@ use frame::Written;
 use numbers::Told;
 
 // Datum and zone to set, or, where the datum is missing, a question.
-#[derive(Drop)]
+#[derive(Clone, Copy)]
 pub struct DatumAsked {
     pub datum: Maybe,
     pub zone: Zone,

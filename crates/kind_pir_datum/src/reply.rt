@@ -10,7 +10,7 @@ use form::got::{Got, GotInt};
 use frame::Written;
 use numbers::Told;
 
-#[derive(Drop)]
+#[derive(Clone, Copy)]
 pub struct DatumTold {
     pub datum: u32,
     pub zone: i32,

@@ -12,7 +12,7 @@ use frame::Written;
 use numbers::Told;
 
 // Satellite masks to set; a missing one is not changed.
-#[derive(Drop)]
+#[derive(Clone, Copy)]
 pub struct MasksAsked {
     pub gps: Maybe,
     pub glonass: Maybe,

@@ -1,3 +1,5 @@
 // The command PIRSR and its reply PIRSA.
+#![tactic(auto)]
+
 pub mod command;
 pub mod reply;

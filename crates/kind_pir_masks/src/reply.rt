@@ -10,7 +10,7 @@ use form::got::Got;
 use frame::Written;
 use numbers::Told;
 
-#[derive(Drop)]
+#[derive(Clone, Copy)]
 pub struct MasksTold {
     pub gps: u32,
     pub glonass: u32,

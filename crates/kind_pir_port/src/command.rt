@@ -12,7 +12,7 @@ use frame::Written;
 use numbers::Told;
 
 // A port's settings to set, or, where the rate is missing, a question.
-#[derive(Drop)]
+#[derive(Clone, Copy)]
 pub struct PortAsked {
     pub port: Maybe,
     pub rate: Maybe,

@@ -1,3 +1,5 @@
 // The command PIRPR and its reply PIRPA.
+#![tactic(auto)]
+
 pub mod command;
 pub mod reply;

@@ -10,7 +10,7 @@ use form::got::Got;
 use frame::Written;
 use numbers::Told;
 
-#[derive(Drop)]
+#[derive(Clone, Copy)]
 pub struct PortTold {
     pub port: u32,
     pub rate: u32,

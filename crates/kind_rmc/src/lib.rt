@@ -1,4 +1,6 @@
 // RMC: time, status, position, speed in knots, course, date, variation and mode.
+#![tactic(auto)]
+
 ghost use Rattle.std.specs.Prelude.{◌≡◌};
 ghost use Rattle.put.specs.Wrote.{held, Puts, PutsFields};
 ghost use Rattle.fields.specs.Places.{fields_by};
@@ -16,7 +18,7 @@ use form_position::{Place, Position};
 use frame::Written;
 use numbers::Told;
 
-#[derive(Drop)]
+#[derive(Clone, Copy)]
 pub struct Rmc {
     pub time: Maybe,
     pub status: u32,

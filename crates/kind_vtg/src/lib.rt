@@ -1,4 +1,6 @@
 // VTG: true and magnetic course, speed in knots and in km/h, and mode.
+#![tactic(auto)]
+
 ghost use Rattle.std.specs.Prelude.{◌≡◌};
 ghost use Rattle.put.specs.Wrote.{held, Puts, PutsFields};
 ghost use Rattle.fields.specs.Places.{fields_by};
@@ -12,7 +14,7 @@ use form_number::{Kmh, Knots, Number};
 use frame::Written;
 use numbers::Told;
 
-#[derive(Drop)]
+#[derive(Clone, Copy)]
 pub struct Vtg {
     pub course: Number,
     pub magnetic: Number,

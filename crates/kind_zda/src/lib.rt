@@ -1,4 +1,6 @@
 // ZDA: time, date and zone.
+#![tactic(auto)]
+
 ghost use Rattle.std.specs.Prelude.{◌≡◌};
 ghost use Rattle.put.specs.Wrote.{held, Puts, PutsFields};
 ghost use Rattle.fields.specs.Places.{fields_by};
@@ -14,7 +16,7 @@ use form_date::{Date, Zone};
 use frame::Written;
 use numbers::Told;
 
-#[derive(Drop)]
+#[derive(Clone, Copy)]
 pub struct Zda {
     pub time: Maybe,
     pub date: Date,

@@ -1,4 +1,6 @@
 // The line rule, for every slice of bytes, sound or damaged.
+#![tactic(auto)]
+
 ghost use Rattle.std.specs.Prelude.{◌≡◌, ◌&&◌, cond, leb, length, set};
 ghost use Rattle.std.proofs.lemmas.List.Edits.{sets};
 ghost use Rattle.line.specs.Line.{body_byte, body_bytes, xor_of, edge_form, end_form, end_gives, line_refusal};
@@ -29,7 +31,7 @@ pub fn store(p: &mut [usize], n: usize, i: usize)
 }
 
 // What one pass over a body finds: whether its bytes may all stand in a body, their XOR, and how many fields it has.
-#[derive(Drop)]
+#[derive(Clone, Copy)]
 struct Found {
     good: bool,
     xor: u8,
@@ -112,7 +114,7 @@ fn judged(good: bool, gives: bool) -> u8
 }
 
 // What one pass over a line finds: what the line rule says of it, and how many fields its body has.
-#[derive(Drop)]
+#[derive(Clone, Copy)]
 pub struct Passed {
     pub no: u8,
     pub count: usize,

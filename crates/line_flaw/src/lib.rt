@@ -1,11 +1,13 @@
 // Why a line fails the line rule: the first part of the rule that does not hold, and where.
+#![tactic(auto)]
+
 ghost use Rattle.std.specs.Prelude.{◌≤◌, ◌≡◌, length};
 ghost use Rattle.line_flaw.specs.Flaw.{end_parts, first_failing, flaw_of, forbidden};
 
 // Which part of the line rule fails, by its number, and at which byte of the line, counted from 1; both are 0 where
 // none does. The numbers: 1 at least 7 bytes, 2 at most 82 bytes, 3 `$` first, 4 LF last, 5 CR before it, 6 `*` before
 // the last four bytes, 7 and 8 a digit 0-9 or A-F, and again, 9 the bytes of the body.
-#[derive(Drop)]
+#[derive(Clone, Copy)]
 pub struct Flaw {
     pub no: u8,
     pub at: usize,

@@ -1,4 +1,6 @@
 // Bytes cut into lines, and what one damaged byte does to a run of lines.
+#![tactic(auto)]
+
 ghost use Rattle.std.specs.Prelude.{◌≡◌, ◌+◌, drop};
 ghost use Rattle.lines.specs.Cut.{line_width};
 

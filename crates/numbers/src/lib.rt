@@ -1,4 +1,6 @@
 // Numbers in a lent slice, as values cross to a host: 64 bits with a sign, one a value.
+#![tactic(auto)]
+
 ghost use Rattle.std.specs.Prelude.{◌≡◌, leb, pos, length, get_or};
 ghost use Rattle.numbers.specs.Told.{gives, Tells, told};
 ghost use Rattle.numbers.specs.Numbers.{is_there, is_mark, is_whole, whole_of, signed_of, laid, talker_number, talker_of};
@@ -33,7 +35,7 @@ pub fn lay(out: &mut [i64], values: &[i64]) -> bool
 }
 
 // What a host is told of a line: 0 and its kind, or a refusal with its field; its numbers stand beside it.
-#[derive(Drop)]
+#[derive(Clone, Copy)]
 pub struct Told {
     pub no: u8,
     pub kind: u32,

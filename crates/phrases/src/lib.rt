@@ -1,5 +1,7 @@
 // The values of a record in words. Each function writes into a lent buffer from the place `at` on, as far as there
 // is room, leaves all other bytes, and answers the next place.
+#![tactic(auto)]
+
 ghost use Rattle.std.specs.Prelude.{◌∷◌, ◌≡◌};
 ghost use Rattle.digits.specs.Decimal.{print_fixed};
 ghost use Rattle.put.specs.Wrote.{held, Puts};

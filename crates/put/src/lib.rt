@@ -1,5 +1,7 @@
 // Bytes and digits put into a lent buffer: each function writes from the place `at` on, as far as there
 // is room, leaves all other bytes, and answers the next place.
+#![tactic(auto)]
+
 ghost use Rattle.std.specs.Prelude.{◌%◌, ◌+◌, ◌≤◌, [], ◌∷◌, ◌≡◌, length};
 ghost use Rattle.digits.specs.Decimal.{print_fixed};
 ghost use Rattle.digits.specs.Plain.{fraction_text, number_text, plain_text};

@@ -1,5 +1,7 @@
 // Why a line was refused, in words. Each function writes into a lent buffer from the place `at` on, as far as there is room, leaves
 // all other bytes, and answers the next place.
+#![tactic(auto)]
+
 ghost use Rattle.std.specs.Prelude.{◌-◌, ◌/◌, ◌%◌, [], ◌∷◌, ◌≡◌, get_or};
 ghost use Rattle.digits.specs.Hex.{hex_of};
 ghost use Rattle.put.specs.Wrote.{held, Puts};

@@ -1,4 +1,6 @@
 // The class receiver: its settings, and what a command makes of them.
+#![tactic(auto)]
+
 pub mod state;
 
 ghost use Rattle.std.specs.Prelude.{cond, ◌≡◌};
@@ -17,14 +19,14 @@ use kind_pir_port::command::PortAsked;
 use kind_pir_port::reply::PortTold;
 
 // What one port is set to.
-#[derive(Drop)]
+#[derive(Clone, Copy)]
 pub struct Port {
     pub rate: u32,
     pub protocol: u32,
     pub mask: u32,
 }
 
-#[derive(Drop)]
+#[derive(Clone, Copy)]
 pub struct Settings {
     pub first: Port,
     pub second: Port,
@@ -36,7 +38,7 @@ pub struct Settings {
 }
 
 // How many satellites each mask allows; or the number of the refusal with line and field, and then none.
-#[derive(Drop)]
+#[derive(Clone, Copy)]
 pub struct Counts {
     pub no: u8,
     pub line: usize,
@@ -47,7 +49,7 @@ pub struct Counts {
 
 // What a command comes to: the length of its reply or the refusal, and the settings as a whole: new, or, where
 // it was refused, the old.
-#[derive(Drop)]
+#[derive(Clone, Copy)]
 pub struct Done {
     pub written: Written,
     pub settings: Settings,

@@ -1,4 +1,6 @@
 // The receiver's settings as eleven numbers in a lent slice.
+#![tactic(auto)]
+
 ghost use Rattle.std.specs.Prelude.{◌≡◌, leb, length};
 ghost use Rattle.numbers.specs.Numbers.{laid};
 ghost use Rattle.receiver_numbers.specs.Numbers.{setting_numbers, settings_at, said};

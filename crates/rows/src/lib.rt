@@ -1,5 +1,7 @@
 // A row of the listing: the number of a line, its address or `-`, and the answer. Each function writes into
 // a lent buffer from the place `at` on, as far as there is room, and answers the next place.
+#![tactic(auto)]
+
 ghost use Rattle.std.specs.Prelude.{◌+◌, min, ◌≡◌, drop, take};
 ghost use Rattle.put.specs.Wrote.{held, Puts};
 ghost use Rattle.rows.specs.Row.{address_text, answer_text, asked_text, numbers_text, shown, told_row};

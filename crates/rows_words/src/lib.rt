@@ -1,5 +1,7 @@
 // A row of the listing in words. Each function writes into a lent buffer from the place `at` on, as far as there is room, and
 // answers the next place.
+#![tactic(auto)]
+
 ghost use Rattle.put.specs.Wrote.{held, Puts};
 ghost use Rattle.sentence.specs.Lines.{read_line};
 ghost use Rattle.rows_words.specs.Worded.{place_text, reason_row, told_worded, worded_text};

@@ -1,4 +1,6 @@
 // Runs of satellite lines: the lines of a log that are taken together before it is asked whether they are a group.
+#![tactic(auto)]
+
 ghost use Rattle.std.specs.Prelude.{◌≡◌};
 ghost use Rattle.sentence.specs.Lines.{read_line};
 ghost use Rattle.runs.specs.Runs.{says_of};
@@ -6,14 +8,14 @@ ghost use Rattle.runs.specs.Step.{joined_to, none_open, run_for, step_of};
 
 // What a line says: nothing where it does not read as GSV, else its number and the number of the last line that it
 // announces.
-#[derive(Drop)]
+#[derive(Clone, Copy)]
 pub enum Says {
     Other,
     Numbered(u32, u32),
 }
 
 // The open run: how many lines it has, 0 where none is open, and the number that its first line announced as last.
-#[derive(Drop)]
+#[derive(Clone, Copy)]
 pub struct Open {
     pub lines: u32,
     pub last: u32,
@@ -21,7 +23,7 @@ pub struct Open {
 
 // What a line comes to: whether the open run ends before it, whether it stands in a run, whether that run ends with
 // it, and what is open behind it.
-#[derive(Drop)]
+#[derive(Clone, Copy)]
 pub struct Stepped {
     pub before: bool,
     pub joins: bool,

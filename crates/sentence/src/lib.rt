@@ -1,4 +1,6 @@
 // The fifteen kinds of sentence as one: a line read to the numbers of its record, and numbers written as a line.
+#![tactic(auto)]
+
 pub mod writing;
 
 ghost use Rattle.std.specs.Prelude.{◌≡◌, replicate};

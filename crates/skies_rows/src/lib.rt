@@ -1,5 +1,7 @@
 // What the program skies prints of a run. Each function writes into a lent buffer from the place `at` on, as far as
 // there is room, leaves all other bytes, and answers the next place.
+#![tactic(auto)]
+
 ghost use Rattle.std.specs.Prelude.{min, ◌≡◌, length, take};
 ghost use Rattle.put.specs.Wrote.{held, Puts};
 ghost use Rattle.frame.specs.Body.{talker_text};

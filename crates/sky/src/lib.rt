@@ -1,5 +1,7 @@
 // The group: a satellite list of one line or of several. What a whole sky is, what one byte of damage does to it,
 // and what its reader and its writer share.
+#![tactic(auto)]
+
 pub mod marks;
 
 ghost use Rattle.std.specs.Prelude.{◌≡◌, ◌≤◌};
@@ -9,21 +11,21 @@ use address::Talker;
 use kind_gsv::Entry;
 
 // Whose sky it is: nobody's where the group was refused.
-#[derive(Drop)]
+#[derive(Clone, Copy)]
 pub enum Whose {
     Nobody,
     Of(Talker),
 }
 
 // Satellites in order: `count` places are used, the others are blank.
-#[derive(Drop)]
+#[derive(Clone, Copy)]
 pub struct Table {
     pub count: usize,
     pub entries: [Entry; 36],
 }
 
 // A whole sky; or number, line and field of the refusal, and then it is nobody's and its table is blank.
-#[derive(Drop)]
+#[derive(Clone, Copy)]
 pub struct Sky {
     pub no: u8,
     pub line: usize,

@@ -1,1 +1,2 @@
 // Round trips of a whole group: proofs only.
+#![tactic(auto)]

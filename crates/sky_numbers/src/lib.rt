@@ -1,4 +1,6 @@
 // A table of satellites and its talker as 254 numbers in a lent slice.
+#![tactic(auto)]
+
 ghost use Rattle.std.specs.Prelude.{◌≡◌, [], ◌≤◌, leb, length};
 ghost use Rattle.numbers.specs.Numbers.{laid};
 ghost use Rattle.numbers.specs.Layout.{list_numbers};

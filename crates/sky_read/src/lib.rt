@@ -1,4 +1,6 @@
 // The group reader: lines in order, read as a whole sky or not at all.
+#![tactic(auto)]
+
 mod repeats;
 
 ghost use Rattle.std.specs.Prelude.{true, [], ◌≡◌, length};
@@ -13,7 +15,7 @@ use kind_gsv::{Entry, Gsv};
 use sky::{Sky, Table, Whose};
 
 // What line 1 said, where a line was taken.
-#[derive(Drop)]
+#[derive(Clone, Copy)]
 pub struct Head {
     pub begun: bool,
     pub talker: Talker,
@@ -22,13 +24,13 @@ pub struct Head {
 }
 
 // What a line comes to: it is taken, or it ends the group with a number and a field.
-#[derive(Drop)]
+#[derive(Clone, Copy)]
 pub enum Next {
     Taken(Talker),
     Stop(u8, usize),
 }
 
-#[derive(Drop)]
+#[derive(Clone, Copy)]
 pub struct Stepped {
     pub next: Next,
     pub gsv: Gsv,

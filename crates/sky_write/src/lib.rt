@@ -1,4 +1,6 @@
 // A table of satellites written as a group: as many GSV lines as it takes, each with up to four of them.
+#![tactic(auto)]
+
 pub mod faults;
 mod sizes;
 

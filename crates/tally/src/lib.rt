@@ -1,10 +1,12 @@
 // What a log holds beside its lines: bytes passed over, and lines that were begun and not given out.
+#![tactic(auto)]
+
 ghost use Rattle.std.specs.Prelude.{cond, ◌≡◌, eqb};
 ghost use Rattle.tally.specs.Tally.{ended, nothing, one, pass_all, pass_one, plus, take};
 
 // The count so far: whether a line was begun, how many bytes and how many rows of the file there were, and of the bytes how many
 // were passed over; lines cut short by a `$` or the end, and lines of over 82 bytes.
-#[derive(Drop)]
+#[derive(Clone, Copy)]
 pub struct Tally {
     pub begun: bool,
     pub bytes: u64,

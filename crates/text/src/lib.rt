@@ -1,5 +1,7 @@
 // Numbers put as text into a lent buffer: each function writes from the place `at` on, as far as there is
 // room, leaves all other bytes, and answers the next place.
+#![tactic(auto)]
+
 ghost use Rattle.std.specs.Prelude.{◌%◌, ◌+◌, ◌≡◌, nat_abs};
 ghost use Rattle.digits.specs.Sign.{sign_text};
 ghost use Rattle.put.specs.Wrote.{held, Puts};

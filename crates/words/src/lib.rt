@@ -1,5 +1,7 @@
 // The fields of a sentence in words, for one who reads an exhibit. Each function writes into a lent buffer from
 // the place `at` on, as far as there is room, leaves all other bytes, and answers the next place.
+#![tactic(auto)]
+
 mod code;
 pub mod fields;
 mod form;

@@ -1,0 +1,12 @@
+-- What is left, taken with the XOR so far, gives that of all.
+use Prim.Native.Nat.{◌-◌, ◌≤◌}
+use mathlib.Core.Path.{◌≡◌}
+use lib.ListN.{drop, length}
+use Rattle.line.specs.Line.{xor_from, xor_of}
+use Rattle.frame.proofs.xor_of.Given as goal
+
+abbrev pub invariant-loop-i : goal.invariant-loop-i
+invariant-loop-i l = (l.i ≤ length l.s) × (xor_from l.xor (drop l.i l.s) ≡ xor_of l.s)
+
+abbrev pub decreases-loop-i : goal.decreases-loop-i
+decreases-loop-i l = length l.s - l.i
