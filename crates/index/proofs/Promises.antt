@@ -91,6 +91,7 @@ same_bytes es ds a b = (same_entries es ds a b, ap index_bytes)
 -- Numbers ascend.
 above : (before e : Entry) (es : List Entry) → in_order before es ≡ true → Stands e es → before.number < e.number
 unfolding in_order
+above before e [] t x' = elim x' [ ]
 above before e (d ∷ es) t here = (fits-is before d (and_left _ _ t)).later
 above before e (d ∷ es) t (later x) =
     let low = (fits-is before d (and_left _ _ t)).later in
@@ -127,6 +128,7 @@ found_first number (d ∷ es) z = go (found_first number es) (eqb d.number numbe
 find-stands : (number : ℕ) (before e : Entry) (es : List Entry) → in_order before es ≡ true → Stands e es → e.number ≡ number
     → find_in number es ≡ finding 0 e.offset e.length
 unfolding in_order find_in
+find-stands number before e [] t x3 h = elim x3 [ ]
 find-stands number before e (d ∷ es) t here h = rw (eq-eqb e.number number h)
 find-stands number before e (d ∷ es) t (later x) h =
     let low = above d e es (and_right (fits before d) _ t) x in

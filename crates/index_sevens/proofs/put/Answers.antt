@@ -12,11 +12,8 @@ loop-n-init c = (omega arith, (refl, refl))
 pub overflow_cast-left : goal.overflow_cast-left
 overflow_cast-left c = omega (arith, c.if-left-lt128.true)
 
-pub put-requires : goal.put-requires
-put-requires c = tt
-
 pub shape_of-out-then-left-lt128 : goal.shape_of-out-then-left-lt128
-shape_of-out-then-left-lt128 c = c.put.auto.0 ∙ c.loop-n.invariant.1.0
+shape_of-out-then-left-lt128 c = c.put.auto.out ∙ c.loop-n.invariant.1.0
 
 pub returns-then-left-lt128 : goal.returns-then-left-lt128
 unfolding sevens
@@ -27,14 +24,11 @@ returns-then-left-lt128 c = record {
       c.loop-n.invariant.1.1;
 }
 
-pub put-place-requires : goal.put-place-requires
-put-place-requires c = tt
-
 pub loop-n-preserved : goal.loop-n-preserved
 loop-n-preserved c = (
   omega arith,
   (
-    c.put-place.auto.0 ∙ c.loop-n.invariant.1.0,
+    c.put-place.auto.out ∙ c.loop-n.invariant.1.0,
     put-more c.loop-n.n c.loop-n.left
         c.loop-n-test.true c.if-left-lt128.false
         c.put-place.ensures ∙ c.loop-n.invariant.1.1,

@@ -15,13 +15,13 @@ returns-then-b-lt128 c = first-value c.args.s.now c.args.at
 
 pub take_more-requires : goal.take_more-requires
 take_more-requires c = omega
-    (arith, c.wide-b.ensures, c.shared_slice_known-2-1.given c.args.at)
+    (arith, c.wide-b.ensures, c.type_inv.s c.args.at)
 
 pub returns : goal.returns
 returns c = let byte : c.wide-b.result < 256 = omega (
   arith,
   c.wide-b.ensures,
-  c.shared_slice_known-2-1.given c.args.at,
+  c.type_inv.s c.args.at,
 ) in
     c.take_more.ensures ∙ ap (taken_at (length c.args.s.now))
     (first_more c.args.s.now

@@ -22,9 +22,6 @@ returns-then-s-place c = take_none c.args.s.now c.loop-n.n c.loop-n.place
     c.loop-n.sum c.loop-n.unit c.loop-n-test.true c.if-s-place.true ∙ ap
     (taken_at (length c.args.s.now)) (sym c.loop-n.invariant.1.1)
 
-pub wide-b-requires : goal.wide-b-requires
-wide-b-requires c = tt
-
 pub overflow_mul-v : goal.overflow_mul-v
 overflow_mul-v c = let b = part-fits c.loop-n.n c.loop-n.sum
     c.loop-n.unit c.wide-b.result
@@ -59,7 +56,7 @@ pub overflow_mul-sum : goal.overflow_mul-sum
 overflow_mul-sum c = let small : c.wide-b.result - 128 < 128 = omega (
   arith,
   c.wide-b.ensures,
-  c.shared_slice_known-in-loop-n-1.given c.loop-n.place,
+  c.type_inv.s c.loop-n.place,
 ) in
     let b = part-fits c.loop-n.n c.loop-n.sum
     c.loop-n.unit (c.wide-b.result - 128)
@@ -70,7 +67,7 @@ pub overflow_add-sum : goal.overflow_add-sum
 overflow_add-sum c = let small : c.wide-b.result - 128 < 128 = omega (
   arith,
   c.wide-b.ensures,
-  c.shared_slice_known-in-loop-n-1.given c.loop-n.place,
+  c.type_inv.s c.loop-n.place,
 ) in
     let b = sum_fits c.loop-n.n c.loop-n.sum
     c.loop-n.unit (c.wide-b.result - 128)
@@ -84,7 +81,7 @@ overflow_mul-unit c = let b = unit-fits c.loop-n.n c.loop-n.sum
 
 pub loop-n-preserved : goal.loop-n-preserved
 loop-n-preserved c = let byte : c.wide-b.result < 256 = omega
-    (arith, c.wide-b.ensures, c.shared_slice_known-in-loop-n-1.given c.loop-n.place) in
+    (arith, c.wide-b.ensures, c.type_inv.s c.loop-n.place) in
     let small : c.wide-b.result - 128 < 128 = omega (arith, byte) in
     let next = take_next c.args.s.now
     c.loop-n.n c.loop-n.place

@@ -1,0 +1,12 @@
+-- Its comma, then the text where the value is there.
+use Rattle.form.proofs.Texts.{absent, present}
+use Rattle.form_mask.specs.Masks.{print_hex}
+use Rattle.form_mask.proofs.text.eight.Goals as goal
+
+pub returns-then-there : goal.returns-then-there
+returns-then-there c =
+    present c.args.there c.if-there.true c.put-a.ensures c.put_eight.ensures
+
+pub returns : goal.returns
+returns c =
+    absent (print_hex 8 c.args.v) c.args.there c.if-there.false c.put-a.ensures

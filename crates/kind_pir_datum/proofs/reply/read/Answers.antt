@@ -1,0 +1,13 @@
+-- `read` meets its contract: the count decides, then each field's form.
+use Rattle.form.proofs.Told.{tells-count, tells-fields}
+use Rattle.kind_pir_datum.specs.Reply.{pirta_row}
+use Rattle.kind_pir_datum.proofs.reply.read.Goals as goal
+
+pub returns-then-n-ne2 : goal.returns-then-n-ne2
+unfolding pirta_row
+returns-then-n-ne2 c = tells-count _ _ _ _ _ c.refuse.ensures c.if-n-ne2.true
+
+pub returns : goal.returns
+unfolding pirta_row
+returns c =
+    tells-fields _ _ _ _ _ _ c.pirta_from.ensures c.if-n-ne2.false (rw (c.four_in-zone.ensures, c.exact_in-datum.ensures))

@@ -1,0 +1,21 @@
+-- `lay` meets its contract: the numbers that it lays are those of the record.
+use mathlib.Core.Path.{refl}
+use mir.Syntax.{w32}
+use mir.Val.{Fits}
+use borrow.Author.Rules.{rules}
+use Rattle.numbers.specs.Layout.{maker_numbers}
+use Rattle.numbers.proofs.Fitting.{wide}
+use Rattle.numbers.proofs.Rows.{◌⋮◌, tells-by}
+use Rattle.kind_pir_masks.specs.Reply.{pirsa_layout, pirsa_row}
+use Rattle.kind_pir_masks.proofs.reply.lay.Goals as goal
+
+pub returns : goal.returns
+unfolding pirsa_layout pirsa_row maker_numbers
+returns c =
+    let fits : Fits w32 c.args.r.gps
+    × Fits w32 c.args.r.glonass =
+    (search rules, search rules) in
+    let f = fits in
+    tells-by c.args.out.now 14 _ _ c.tell.ensures (wide c.args.r.gps f.0
+    ⋮ wide c.args.r.glonass f.1
+    ⋮ refl)

@@ -1,0 +1,28 @@
+-- `pirpr_from` meets its contract: the first wrong field is found from the last on, as the definition says; without one the record is made.
+use Rattle.form.proofs.Told.{tells-right, tells-wrong}
+use Rattle.kind_pir_port.specs.Command.{pirpr_row}
+use Rattle.kind_pir_port.proofs.command.pirpr_from.Goals as goal
+
+pub returns-then-w1-ne0 : goal.returns-then-w1-ne0
+unfolding pirpr_row
+returns-then-w1-ne0 c =
+    tells-wrong _ _ _ _ c.near-w1.result c.refuse.ensures (rw (
+      ← c.needed-mask_wrong.ensures,
+      ← c.near-w4.ensures,
+      ← c.needed-protocol_wrong.ensures,
+      ← c.near-w3.ensures,
+      ← c.near-w2.ensures,
+      ← c.near-w1.ensures,
+    )) c.if-w1-ne0.true
+
+pub returns : goal.returns
+unfolding pirpr_row
+returns c =
+    tells-right _ _ _ _ _ c.lay.ensures (rw (
+      ← c.needed-mask_wrong.ensures,
+      ← c.near-w4.ensures,
+      ← c.needed-protocol_wrong.ensures,
+      ← c.near-w3.ensures,
+      ← c.near-w2.ensures,
+      ← c.near-w1.ensures,
+    ) c.if-w1-ne0.false) (rw (c.kept.ensures, c.kept-2.ensures, c.kept_if.ensures, c.kept_if-2.ensures))

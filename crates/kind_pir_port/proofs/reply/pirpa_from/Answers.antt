@@ -1,0 +1,29 @@
+-- `pirpa_from` meets its contract: the first wrong field is found from the last on, as the definition says; without one the record is made.
+use mathlib.Core.Path.{refl}
+use Rattle.form.proofs.Told.{tells-right, tells-wrong}
+use Rattle.kind_pir_port.specs.Reply.{pirpa_row}
+use Rattle.kind_pir_port.proofs.reply.pirpa_from.Goals as goal
+
+pub returns-then-w1-ne0 : goal.returns-then-w1-ne0
+unfolding pirpa_row
+returns-then-w1-ne0 c =
+    tells-wrong _ _ _ _ c.near-w1.result c.refuse.ensures (rw (
+      ← c.needed-mask_wrong.ensures,
+      ← c.near-w4.ensures,
+      ← c.near-w3.ensures,
+      ← c.needed-rate_wrong.ensures,
+      ← c.near-w2.ensures,
+      ← c.near-w1.ensures,
+    )) c.if-w1-ne0.true
+
+pub returns : goal.returns
+unfolding pirpa_row
+returns c =
+    tells-right _ _ _ _ _ c.lay.ensures (rw (
+      ← c.needed-mask_wrong.ensures,
+      ← c.near-w4.ensures,
+      ← c.near-w3.ensures,
+      ← c.needed-rate_wrong.ensures,
+      ← c.near-w2.ensures,
+      ← c.near-w1.ensures,
+    ) c.if-w1-ne0.false) refl

@@ -1,0 +1,33 @@
+-- `rmc_from` meets its contract: the first wrong field is found from the last on, as the definition says; without one the record is made.
+use Rattle.form.proofs.Told.{tells-right, tells-wrong}
+use Rattle.kind_rmc.specs.Row.{rmc_row}
+use Rattle.kind_rmc.proofs.rmc_from.Goals as goal
+
+pub returns-then-w1-ne0 : goal.returns-then-w1-ne0
+unfolding rmc_row
+returns-then-w1-ne0 c =
+    tells-wrong _ _ _ _ c.near-w1.result c.refuse.ensures (rw (
+      ← c.near-w12.ensures,
+      ← c.near-w10.ensures,
+      ← c.near-w9.ensures,
+      ← c.near-w8.ensures,
+      ← c.near-w7.ensures,
+      ← c.near-w3.ensures,
+      ← c.near-w2.ensures,
+      ← c.near-w1.ensures,
+    )) c.if-w1-ne0.true
+
+pub returns : goal.returns
+unfolding rmc_row
+returns c =
+    tells-right _ _ _ _ _ c.lay.ensures (rw (
+      ← c.near-w12.ensures,
+      ← c.near-w10.ensures,
+      ← c.near-w9.ensures,
+      ← c.near-w8.ensures,
+      ← c.near-w7.ensures,
+      ← c.near-w3.ensures,
+      ← c.near-w2.ensures,
+      ← c.near-w1.ensures,
+    ) c.if-w1-ne0.false)
+    (rw (c.kept.ensures, c.placed.ensures, c.knots.ensures, c.number.ensures, c.dated.ensures, c.signed.ensures))

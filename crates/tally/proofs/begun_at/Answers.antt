@@ -1,0 +1,9 @@
+-- By whether it is that byte.
+use borrow.Author.Tests.{eq-eqb, ne_eqb}
+use Rattle.tally.proofs.begun_at.Goals as goal
+
+pub returns-then-b-c : goal.returns-then-b-c
+returns-then-b-c c = rw (eq-eqb _ _ c.if-b-c.true) c.one.ensures
+
+pub returns : goal.returns
+returns c = rw (ne_eqb _ _ c.if-b-c.false)
