@@ -7,7 +7,7 @@ ghost use Rattle.exhibits_lists.specs.Lists.{asked_of, blanks, body_length, body
 ghost use Rattle.exhibits_lists.specs.Lists.{pair_of, row_of, up_to, width};
 
 // A number that was read, or bytes that are none.
-#[derive(Clone, Copy)]
+#[derive(Drop)]
 pub enum Parsed {
     Is(u64),
     Bad,
@@ -82,7 +82,7 @@ pub fn parse(s: &[u8]) -> Parsed
 }
 
 // What a row of a list says: an exhibit and a line, nothing, or something else.
-#[derive(Clone, Copy)]
+#[derive(Drop)]
 pub enum Row {
     Is(u64, u64),
     Blank,
@@ -179,7 +179,7 @@ pub fn read_row(s: &[u8]) -> Row
 
 // What a row asks for: the exhibit and its line; nothing; or why it is refused: it is no row, it names exhibit 0 or
 // line 0, or its exhibit or its line does not come behind those of the row before.
-#[derive(Clone, Copy)]
+#[derive(Drop)]
 pub enum Asked {
     Is(u64, u64),
     Nothing,

@@ -12,8 +12,7 @@ returns-then-line-eq0 c = rw (ne_eqb _ _ c.if-exhibit-eq0.false, eq-eqb _ _ c.if
 
 pub returns-then-exhibit-last : goal.returns-then-exhibit-last
 unfolding follows_of
-returns-then-exhibit-last c =
-    rw (ne_eqb _ _ c.if-exhibit-eq0.false, ne_eqb _ _ c.if-line-eq0.false, le-leb _ _ c.if-exhibit-last.true)
+returns-then-exhibit-last c = rw (ne_eqb _ _ c.if-exhibit-eq0.false, ne_eqb _ _ c.if-line-eq0.false, le-leb _ _ c.if-exhibit-last.true)
 
 pub returns-then-line-above : goal.returns-then-line-above
 unfolding follows_of

@@ -13,10 +13,16 @@ returns-then-s-gt10 c = rw (le-leb _ _ c.if-s-lt1.false, lt-leb _ _ c.if-s-gt10.
 
 pub returns-then-is_padded : goal.returns-then-is_padded
 unfolding number_of
-returns-then-is_padded c =
-    rw (le-leb _ _ c.if-s-lt1.false, le-leb _ _ c.if-s-gt10.false, ← c.is_padded.ensures, c.if-is_padded.true)
+returns-then-is_padded c = rw (
+  le-leb _ _ c.if-s-lt1.false,
+  le-leb _ _ c.if-s-gt10.false,
+  ←
+      c.is_padded.ensures,
+  c.if-is_padded.true,
+)
 
 pub returns : goal.returns
 unfolding number_of
 returns c = c.up_to.ensures ∙ rw (c.scan.ensures, le-leb _ _ c.if-s-lt1.false)
-    (rw (le-leb _ _ c.if-s-gt10.false, ← c.is_padded.ensures) (rw (c.if-is_padded.false)))
+    (rw (le-leb _ _ c.if-s-gt10.false, ← c.is_padded.ensures)
+    (rw c.if-is_padded.false))
