@@ -24,8 +24,8 @@ loop-from-preserved c = record {
   inside = omega arith;
   long = search rules;
   bytes =
-    move-next c.args.a c.loop-from.i c.args.buf.now (omega arith) c.loop-from.buf c.loop-from.from c.loop-from.invariant.bytes
-    c.loop-from.invariant.place;
+      move-next c.args.a c.loop-from.i c.args.buf.now (omega arith) c.loop-from.buf c.loop-from.from c.loop-from.invariant.bytes
+      c.loop-from.invariant.place;
 }
 
 pub returns : goal.returns
