@@ -2,8 +2,9 @@
 // tell of a call of the system that failed.
 #![tactic(auto)]
 
-ghost use Rattle.std.specs.Prelude.{is_ok, length};
-ghost use Rattle.turns.specs.Turns.{Keeps, Flushes, Comes};
+ghost use Rattle.std.specs.Prelude.{◌≡◌, OnOk, is_ok, length, take};
+ghost use Rattle.std.specs.Io.KnownBytes.{Appends};
+ghost use Rattle.turns.specs.Turns.{Keeps, Flushes, Comes, Takes};
 
 use std::env::FillError;
 use std::io;
@@ -13,7 +14,8 @@ use std::rt::Env;
 // Writes what `out` holds up to `place`, and answers whether all of it could be written, or else why not; a failure where
 // `place` lies beyond `out`.
 pub fn flush<W: Write>(to: &mut W, out: &[u8], place: usize) -> io::Result<()>
-    ensures { Flushes out.now place (is_ok result) }
+    ensures beyond { Flushes out.now place (is_ok result) }
+    ensures bytes { OnOk result (Appends (W.contents to.old) (W.contents to.new) (take place out.now)) }
 {
     if place <= out.len() {
         return to.write_all(&out[0..place]);
@@ -50,7 +52,9 @@ pub enum Came {
 
 // Reads once, behind the bytes of `buf` that were kept.
 pub fn read_more<R: Read>(from: &mut R, buf: &mut [u8], kept: usize) -> Came
-    ensures { Comes kept (length buf.old) result }
+    ensures came { Comes kept (length buf.old) result }
+    ensures kept { take kept buf.new ≡ take kept buf.old }
+    ensures takes { Takes kept (R.remaining from.old) (R.remaining from.new) buf.new result }
 {
     if buf.len() <= kept {
         return Came::Full;
