@@ -1,4 +1,4 @@
-/* The exported functions of the proved library, target/staticlib/libhost.a, which `rt staticlib host` writes. docs/LAYOUT.md says which
+/* The exported functions of the proved library, target/staticlib/libhost.a, which tools/host writes. docs/LAYOUT.md says which
  * numbers a record, a group, the settings and an index have; docs/RULES.md what the numbers of refusals are.
  *
  * Bytes and numbers are lent as a pointer and how many there are. A pointer is never null, also where there are none. What is lent to be

@@ -1,4 +1,4 @@
-//! Links the static library that `rt staticlib host` writes; or the one in the folder that CASTANWEL_LIBRARY names.
+//! Links the static library that `tools/host` writes; or the one in the folder that CASTANWEL_LIBRARY names.
 use std::env;
 use std::path::Path;
 
@@ -7,7 +7,7 @@ fn main() {
     let folder = env::var("CASTANWEL_LIBRARY").unwrap_or_else(|_| format!("{}/../target/staticlib", here));
     let library = Path::new(&folder).join("libhost.a");
     if !library.exists() {
-        println!("cargo:warning=the proved library is not built yet: run tools/host, or rt staticlib host, at the top of the repository");
+        println!("cargo:warning=the proved library is not built yet: run tools/host at the top of the repository");
     }
     println!("cargo:rustc-link-search=native={}", folder);
     println!("cargo:rustc-link-lib=static=host");

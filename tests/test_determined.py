@@ -2,7 +2,10 @@
 
 A clause and an entry are compared as trees of names, each name with the file that defines it; a parameter is its place among those that the
 clauses name. So a weakened `ensures` has no entry any more, and its entry no function."""
+import functools
+import pathlib
 import re
+import shutil
 
 from programs import ROOT
 
@@ -14,14 +17,16 @@ HELPERS = {"one", "read", "one-put", "one-writing"}
 # contracts say nothing (docs/DECISIONS.md); `flush` and `read_more` have a contract, about what they do beside that.
 FILES = {"exhibits_" + name for name in ("adding", "checking", "renewing", "rows", "says", "showing", "storing", "walks")}
 STREAMS = {("turns", "flush"), ("turns", "read_more")}
+# What a clause calls the answer.
+RESULT = "result"
 # Where names are defined that a relation or an entry has in another word.
-HELD, HOST = "Rattle·put.specs.Wrote.held", "Rattle·sentence.specs.FromHost."
+HELD, HOST = "Rattle.put.specs.Wrote.held", "Rattle.sentence.specs.FromHost."
 
 
 def tree(text):
-    """Nested lists of words, by parentheses and braces."""
+    """Nested lists of words, by parentheses and braces. What is taken of a value by a dot is a word of its own, which begins with the dot."""
     stack = [[]]
-    for word in re.findall(r"[(){}]|[^\s(){}]+", text):
+    for word in re.findall(r"[(){}]|\.[\w'«»-]+|[A-Z][^\s(){}]*|[^\s(){}.]+|\.", text):
         if word in "({":
             stack.append([])
         elif word in ")}":
@@ -45,30 +50,46 @@ def split(words, at):
 
 def bare(node):
     """Without needless parentheses, and what a reference holds at entry as the parameter itself, at exit as `exit` of it."""
-    if isinstance(node, str):
+    if isinstance(node, str) or node[:1] == ["exit"]:
         return node
-    words = [bare(one) for one in node]
-    if len(words) == 2 and words[1] == ".entry":
-        return words[0]
     merged = []
-    for word in words:
-        if merged and merged[-1] == "now":
-            merged[-1] = ["exit", word[0]] if isinstance(word, list) and word[-1] == ".exit" else word
-        else:
+    for word in map(bare, node):
+        if not merged or not isinstance(word, str) or not word.startswith("."):
             merged.append(word)
+        elif word == ".new":
+            merged[-1] = ["exit", merged[-1]]
+        elif word not in (".entry", ".now", ".old"):
+            merged[-1] = [merged[-1], word]
     return merged[0] if len(merged) == 1 else merged
+
+
+@functools.cache
+def handed_on(file):
+    """The names that a file of the kit's specs hands on, each with the file that it takes it from."""
+    kit = pathlib.Path(shutil.which("rt")).resolve().parent.parent / "rattle"
+    path = kit.joinpath(*file.split(".")[1:]).with_suffix(".antt") if file.startswith("Rattle.") else kit
+    if not path.is_file():
+        return {}
+    lines = re.findall(r"^pub use ([^\s;{]+?)\.\{([^}]*)\}", path.read_text(), re.MULTILINE)
+    return {one.strip(): other for other, listed in lines for one in listed.split(",")}
+
+
+def origin(file, name):
+    """A name with the file that defines it, where another hands it on."""
+    while name in handed_on(file):
+        file = handed_on(file)[name]
+    return file + "." + name
 
 
 def names(text):
     """Where the names that a file uses are defined: name to file and name there, and the short names of files."""
     found, files = {}, {}
     for path, short, listed in re.findall(r"^(?:ghost )?use ([^\s;{]+?)(?: as (\S+?)|\.\{([^}]*)\})?;?$", text, re.MULTILINE):
-        path = re.sub(r"^Rattle·(\w+)·(?:specs|proofs)\.", r"Rattle·\1.", path)
         if short:
             files[short] = path
         for one in filter(None, (word.strip() for word in listed.split(","))):
             name, _, other = one.partition(" as ")
-            found[other or name] = path + "." + name
+            found[other or name] = origin(path, name)
     return found, files
 
 
@@ -98,7 +119,7 @@ def last(word):
 
 
 def of(node, field):
-    return [*node, field] if isinstance(node, list) else [node, field]
+    return [node, field]
 
 
 def formulas(node):
@@ -112,7 +133,7 @@ def formulas(node):
     if name == "Tells":
         return [[words[1], "≡", of(words[0], ".0")], [words[2], "≡", of(words[0], ".1")]]
     if name == "WritesRecord":
-        return [["Writes", [HOST + "numbersFault", words[0], words[1]], [HOST + "recordBody", words[1]], *words[2:]]]
+        return [["Writes", [HOST + "numbers_fault", words[0], words[1]], [HOST + "record_body", words[1]], *words[2:]]]
     if name in ("Puts", "PutsFields", "Writes", "WritesGroup"):
         return [[name, *words]]
     if "≡" in node:
@@ -180,9 +201,14 @@ def functions():
             given = head[head.index("("):]
             given = given[:closing(given) + 1]
             parameters = re.findall(r"(\w+)\s*:(?!:)", given)
-            clauses = re.findall(r"ensures(?: \w+)? \{ λ (\w+)\. ⌜(.*?)⌝ \}", " ".join(head.split()))
-            assert len(clauses) == len(re.findall(r"\bensures\b", head)), (path, match.group(1))
+            clauses = [clause(head[at.end():]) for at in re.finditer(r"\bensures\b", head)]
             yield path.parts[-3], path, match.group(1), parameters, clauses
+
+
+def clause(text):
+    """The name of a clause, if it has one, and what it says, from the text behind `ensures`."""
+    name = re.match(r"\*? *(\w*)\s*(?=\{)", text)
+    return name.group(1), " ".join(text[name.end() + 1:name.end() + closing(text[name.end():])].split())
 
 
 def closing(text):
@@ -226,12 +252,10 @@ def contracts():
     for crate, path, name, parameters, clauses in functions():
         if crate in FILES and not clauses or (crate, name) in STREAMS:
             continue
-        text, parts, results = path.read_text(), [], set()
-        for result, formula in clauses:
-            scope = Scope(text, parameters, {result})
-            results.add(result)
+        scope, parts = Scope(path.read_text(), parameters, {RESULT}), []
+        for _, formula in clauses:
             parts += formulas(scope.resolved(bare(tree(formula))))
-        said[f"{crate}::{path.stem}::{name}"] = canonical(parts, parameters, results)
+        said[f"{crate}::{path.stem}::{name}"] = canonical(parts, parameters, {RESULT})
     return said
 
 
@@ -271,8 +295,8 @@ def test_each_contract_names_its_results():
         text = re.sub(r"//[^\n]*", "", path.read_text())
         head = signature(text[re.search(r"\bpub (?:unsafe )?(?:extern \"C\" )?fn %s\b" % name, text).end():])
         lent = re.findall(r"(\w+)\s*:\s*&(?:'\w+ )?mut\b", head)
-        silent += [f"{crate}::{name}: {one}" for one in lent if not re.search(r"\(«?%s»? \.exit\)" % one, said)]
-        if "->" in head.split("ensures")[0] and not any(result in flat(tree(formula)) for result, formula in clauses):
+        silent += [f"{crate}::{name}: {one}" for one in lent if not re.search(r"(?<![\w.])«?%s»?\.new\b" % one, said)]
+        if "->" in head.split("ensures")[0] and not any(RESULT in flat(tree(formula)) for _, formula in clauses):
             silent.append(f"{crate}::{name}")
     assert not silent, silent
 
@@ -280,13 +304,13 @@ def test_each_contract_names_its_results():
 def test_each_exported_function_is_said_by_its_own_clauses():
     """claims/Contracts names every clause of a function that a host calls; the prover compares what they say."""
     text = (CLAIMS / "Contracts.antt").read_text()
-    exported = [(name, len(clauses)) for crate, _, name, _, clauses in functions() if crate == "host"]
+    exported = [(name, {said or "1" for said, _ in clauses}) for crate, _, name, _, clauses in functions() if crate == "host"]
     missing = []
-    for name, count in exported:
+    for name, clauses in exported:
         short = name.removeprefix("castanwel_").replace("_", "-")
         said = re.search(r"^  pub %s-says : .*?^  %s-says " % (short, short), text, re.MULTILINE | re.DOTALL)
-        own = set(re.findall(r"\b%s\.ensures-(\d+)" % re.escape(short), said.group(0))) if said else set()
-        if own != {str(place) for place in range(1, count + 1)} or not re.search(r"\.%s as %s$" % (name, short), text, re.MULTILINE):
+        own = set(re.findall(r"\b%s\.ensures-(\w+)" % re.escape(short), said.group(0))) if said else set()
+        if own != clauses or not re.search(r"\.%s as %s$" % (name, short), text, re.MULTILINE):
             missing.append(name)
     assert not missing, missing
     assert len(exported) > 10

@@ -2,10 +2,8 @@
 and files that are wrong; and that a failure leaves every file as it was."""
 import contextlib
 import pathlib
-import platform
 import re
 import resource
-import shutil
 import subprocess
 import tempfile
 
@@ -298,10 +296,7 @@ def test_output_that_cannot_be_written():
 
 def limited(path, size, *words, data=b""):
     """What the built program says where no file may grow past a size, as on a full disk. tools/program would meet the limit itself."""
-    chain = pathlib.Path(shutil.which("rt")).resolve().parent.parent / "on" / platform.machine() / "toolchain"
-    loader = [chain / "lib/ld-linux-x86-64.so.2", "--library-path", chain / "lib"]
-    emulator = chain / "bin/qemu-x86_64"
-    start = [*([emulator] if emulator.exists() else []), *loader, ROOT / "target/bin/exhibits", *words]
+    start = [ROOT / "crates/exhibits/out/exhibits", *words]
     ended = subprocess.run(start, input=data, capture_output=True, cwd=path, timeout=300, restore_signals=False,
                            preexec_fn=lambda: resource.setrlimit(resource.RLIMIT_FSIZE, (size, size)))
     assert ended.returncode == 0 and ended.stdout == b"", ended

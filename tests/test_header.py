@@ -1,5 +1,6 @@
-"""The exported functions of crates/host: include/castanwel.h, the crate in rust/ and docs/LAYOUT.md declare each as the source has it, and
-a C program that calls every one by the header, linked to the library, gets the answers that it expects."""
+"""The exported functions of crates/host_c: each says again what the function of crates/host says that it calls; include/castanwel.h,
+the crate in rust/ and docs/LAYOUT.md declare each as the source has it; and a C program that calls every one by the header, linked to the
+library, gets the answers that it expects."""
 import pathlib
 import re
 import subprocess
@@ -38,8 +39,8 @@ def named(text):
 
 def exported():
     """The functions of the source: by name, the parameters with their types, and the type of the answer."""
-    found = re.findall(r'#\[no_mangle\]\s*pub extern "C" fn (\w+)\(([^)]*)\)\s*->\s*(\w+)', texts("crates/host/src/**/*.rt"))
-    assert len(found) == texts("crates/host/src/**/*.rt").count("#[no_mangle]") > 15
+    found = re.findall(r'#\[unsafe\(no_mangle\)\]\s*pub extern "C" fn (\w+)\(([^)]*)\)\s*->\s*(\w+)', texts("crates/host_c/src/**/*.rt"))
+    assert len(found) == texts("crates/host_c/src/**/*.rt").count("no_mangle") > 15
     return {name: (named(takes), gives) for name, takes, gives in found}
 
 
@@ -70,6 +71,27 @@ def rust_types(kind):
 
 def all_of(turn, rows):
     return [one for row in rows for one in turn(*row)]
+
+
+def contracts(crate, words):
+    """The public functions of a crate that are declared with these words: by name, file, parameters, answer with clauses, and body."""
+    found, shape = {}, re.compile(r"^%s (castanwel_\w+)\(([^)]*)\)(.*?)^\{\n(.*?)^\}" % re.escape(words), re.M | re.S)
+    for path in sorted((ROOT / "crates" / crate / "src").glob("*.rt")):
+        for name, takes, says, body in shape.findall(path.read_text()):
+            assert name not in found, name
+            found[name] = (path.stem, named(takes), " ".join(says.split()), " ".join(body.split()))
+    return found
+
+
+def test_each_export_says_what_the_function_of_host_says():
+    """An export has parameters, answer and clauses of the function of host of its name, and does nothing but to call it with what it was given."""
+    ours, theirs = contracts("host_c", 'pub extern "C" fn'), contracts("host", "pub fn")
+    assert set(ours) == set(theirs) == set(exported())
+    for name, (file, takes, says, body) in ours.items():
+        assert (file, takes, says) == theirs[name][:3], name
+        path = "" if file == "lib" else file + "::"
+        assert body == f"host::{path}{name}({', '.join(one for one, _ in takes)})", name
+        assert says.count("ensures") > 0, name
 
 
 def test_header_declares_each_function():

@@ -3,7 +3,7 @@ user, what leads to a check, and the status for every program."""
 import contextlib
 import os
 import pathlib
-import platform
+import re
 import shutil
 import stat
 import subprocess
@@ -15,23 +15,37 @@ from programs import ROOT, command, run
 TOOLS = sorted(path.name for path in (ROOT / "tools").iterdir() if os.access(path, os.X_OK))
 PROGRAMS = sorted(path.parent.parent.name for path in ROOT.glob("crates/*/src/main.rt"))
 
-# Proves nothing: notes that it began and ended, prints rows as rt does, and writes the program, which prints its words. Beside it, a file
-# `waits` keeps it from ending, and a file `fails` makes it fail.
+# Proves nothing: notes in which crate it began and that it ended, prints rows as rt does, and writes the program, which prints its words,
+# and runs it. It sets the clock once that was read, so that a crate takes its time. Beside it, a file `waits` keeps it from ending, and a
+# file `fails` makes it fail.
 RT = """#!/bin/sh
 here=$(dirname "$(readlink -f "$0")")
-echo "begins $*" >>"$here/calls"
+echo "begins $* $(basename "$PWD")" >>"$here/calls"
 sleep 0.05
 while [ -e "$here/waits" ]; do sleep 0.05; done
-mkdir -p target/bin target/stamp
-printf '%s\\n' '#!/bin/sh' 'echo "$@"' '[ "$1" != bad ] || echo "tiny: it could not" >&2' >target/bin/tiny
-chmod +x target/bin/tiny
+mkdir -p out ../low/out/rlib ../below/out/rlib
+printf '%s\\n' '#!/bin/sh' 'echo "$@"' '[ "$1" != bad ] || echo "tiny: it could not" >&2' >out/tiny
+chmod +x out/tiny
+touch "$here/asked"
+asked() { for _ in $(seq 200); do [ "$(wc -l <"$here/asked")" -lt "$1" ] || return 0; sleep 0.02; done; }
+took() { echo $(($(cat "$here/clock") + $1)) >"$here/clock"; }
+proved() { echo "crate $1: modules loaded=0 checked=5"; echo "logic=proved functions=1 sum=0"; asked "$2"; }
+asked 1
 echo "fn low::one: proved"
-echo "rt: below proved (unchanged since it was last proved)"
-echo "rt: low proved (7 s)"
-[ ! -e "$here/fails" ] || { seq 30; echo "rt: tiny NOT PROVED (exit 1, 3 s)"; exit 1; }
-echo "rt: tiny proved (11 s)"
-touch target/stamp/below target/stamp/low target/stamp/tiny
+took 7; proved low 2
+[ ! -e "$here/fails" ] || { : >"$here/asked"; seq 30; echo "logic=not-proved functions=1 sum=0"; exit 1; }
+took 11; proved tiny 3
+: >"$here/asked"
+touch ../below/out/rlib/stamp ../low/out/rlib/stamp out/tiny.stamp
 echo ends >>"$here/calls"
+echo "rt: running out/tiny; to give it other input, run that file yourself" >&2
+exec out/tiny
+"""
+# Tells the time that rt has set, and notes that it was asked.
+CLOCK = """#!/bin/sh
+here=$(dirname "$(readlink -f "$0")")
+cat "$here/clock"
+echo >>"$here/asked"
 """
 NOTES = "#!/bin/sh\necho \"$0 $*\" >>\"$(dirname \"$0\")/calls\"\n"
 ANNOUNCED = "tools/program: what it runs has to be proved and built first: up to 3 of the 3 crates of tiny, about 1 min with 2 at a time"
@@ -55,7 +69,8 @@ class Clone:
             (self.root / "crates" / name).parent.mkdir(parents=True, exist_ok=True)
             (self.root / "crates" / name).write_text("// It prints its words.\n")
         script(self.kit / "bin" / "rt", RT)
-        script(self.kit / "on" / platform.machine() / "toolchain" / "lib" / "ld-linux-x86-64.so.2", "#!/bin/sh\nshift 2\nexec \"$@\"\n")
+        script(self.kit / "bin" / "date", CLOCK)
+        (self.kit / "bin" / "clock").write_text("1000\n")
         self.path = f"{self.kit / 'bin'}:{os.environ['PATH']}"
 
     def start(self, *words, before=(), **streams):
@@ -88,7 +103,7 @@ class Clone:
         return rows
 
 
-CALL = ["begins check tiny", "ends"]
+CALL = ["begins run tiny", "ends"]
 
 
 @contextlib.contextmanager
@@ -158,7 +173,7 @@ def test_a_check_that_has_nothing_to_prove_is_silent():
         small.run("tiny")
         (small.root / "target" / "program" / "tiny").unlink()
         text = small.kit / "bin" / "rt"
-        script(text, text.read_text().replace("(7 s)", "(unchanged since it was last proved)").replace("(11 s)", "(unchanged since then)"))
+        script(text, re.sub(r"^took .*\n", "echo 'rt: nothing has changed since the last proved build'\n", text.read_text(), flags=re.M))
         small.calls()
         assert small.run("tiny", "a") == (0, ["a"], []) and small.calls() == CALL
 
@@ -206,7 +221,7 @@ def test_what_leads_to_a_check():
         changes = (lambda: (crates / "low/src/more.rt").unlink(), lambda: (crates / "low/src/lib.rt").write_text("// It is changed.\n"),
                    lambda: (crates / "low/src/new.rt").write_text("// It is new.\n"), lambda: shutil.rmtree(crates / "other"),
                    lambda: (small.root / "crates.txt").write_text("below:\nlow: below\ntiny: low io\n"),
-                   lambda: (small.root / "target/bin/tiny").unlink())
+                   lambda: (small.root / "crates/tiny/out/tiny").unlink())
         for at, change in enumerate(changes):
             small.calls()
             change()
@@ -233,11 +248,11 @@ def test_how_many_are_to_be_proved():
             assert said[0] == ANNOUNCED.replace("up to 3", f"up to {left}"), said
         for name in ("other/src", "low/must-fail"):
             (small.root / "crates" / name).mkdir(exist_ok=True)
-            (small.root / "target" / "stamp" / "low").touch()
-            (small.root / "target" / "stamp" / "tiny").touch()
+            (small.root / "crates" / "low" / "out" / "rlib" / "stamp").touch()
+            (small.root / "crates" / "tiny" / "out" / "tiny.stamp").touch()
             (small.root / "crates" / name / "new").write_text("It is new.\n")
             assert small.run("tiny")[2] == PROVED[1:], name
-        (small.root / "target" / "stamp" / "below").touch()
+        (small.root / "crates" / "below" / "out" / "rlib" / "stamp").touch()
         (small.root / "crates.txt").touch()
         assert small.run("tiny")[2][0] == ANNOUNCED.replace("up to 3", "up to 2")
 
@@ -247,8 +262,8 @@ def test_what_is_not_proved_is_not_run():
         (small.kit / "bin" / "fails").touch()
         for _ in range(2):
             status, out, said = small.run("tiny", "a")
-            assert (status, out) == (1, []) and (small.root / "target/bin/tiny").exists()
-            assert said[:2] == PROVED[:2] and said[2:] == [*map(str, range(12, 31)), "rt: tiny NOT PROVED (exit 1, 3 s)"], said
+            assert (status, out) == (1, []) and (small.root / "crates/tiny/out/tiny").exists()
+            assert said[:2] == PROVED[:2] and said[2:] == [*map(str, range(12, 31)), "logic=not-proved functions=1 sum=0"], said
         (small.kit / "bin" / "fails").unlink()
         assert small.run("tiny", "a")[:2] == (0, ["a"])
 
@@ -292,6 +307,46 @@ def test_what_is_not_installed():
         status, out, said = small.run("tiny")
         assert (status, out) == (2, []) and "the Rattle kit is not installed" in said[0], said
         assert small.calls() == []
+
+
+# What a stand-in for rt ci prints, and what comes of it: the status, and the last row of tools/test.
+ENDS = {
+    ("rt: ok; handles allowed: none; must-fail edits: 2 refused; done", "5 passed, 0 failed", 0): (0, "9 passed, 0 failed"),
+    ("rt: ok; handles allowed: none; must-fail edits: 2 refused, 1 of them only by a limit; done", "5 passed, 0 failed", 0):
+        (0, "9 passed, 0 failed"),
+    ("rt: ok; handles allowed: none; must-fail edits: 2 refused, 1 bad; done", "5 passed, 0 failed", 0): (1, "9 passed, 1 failed"),
+    ("rt: FAILED: low", "4 passed, 1 failed", 1): (1, "8 passed, 1 failed"),
+    ("rt: ok; handles allowed: none", "5 passed, 0 failed (low and the crates below alone: not the gate)", 0): (1, "4 passed, 1 failed"),
+    ("rt: ok; handles allowed: none", "5 passed, 0 failed", 2): (1, "9 passed, 0 failed"),
+}
+
+
+def test_what_the_gate_lets_pass():
+    with clone() as small:
+        script(small.root / "tools" / "host", "#!/bin/sh\necho 3 passed, 0 failed\n")
+        script(small.root / "tools" / "edits", "#!/bin/sh\n")
+        (small.root / "tests").mkdir()
+        (small.root / "tests" / "run.py").write_text("print('1 passed, 0 failed')\n")
+        for (row, last, status), wanted in ENDS.items():
+            ci = f"#!/bin/sh\necho \"$*\" >>\"$(dirname \"$0\")/calls\"\necho '{row}'\necho '{last}'\nexit {status}\n"
+            script(small.kit / "bin" / "rt", ci)
+            done = subprocess.run([small.root / "tools" / "test"], env={**os.environ, "PATH": small.path}, capture_output=True, text=True)
+            assert (done.returncode, done.stdout.splitlines()[-1], small.calls()) == (*wanted, ["ci"]), (row, last, done)
+            assert (small.root / "target" / "ci.out").read_text() == f"{row}\n{last}\n"
+
+
+def test_what_the_gate_has_proved_is_not_proved_again():
+    with clone() as small:
+        for name, text in (("tools/host", "echo 3 passed, 0 failed"), ("tools/edits", ""), ("crates/tiny/out/tiny", 'echo "$@"')):
+            script(small.root / name, f"#!/bin/sh\n{text}\n")
+        (small.root / "tests").mkdir()
+        (small.root / "tests" / "run.py").write_text("print('1 passed, 0 failed')\n")
+        script(small.kit / "bin" / "rt", "#!/bin/sh\necho 'rt: ok; handles allowed: none'\necho 5 passed, 0 failed\n")
+        subprocess.run([small.root / "tools" / "test"], env={**os.environ, "PATH": small.path}, capture_output=True, check=True)
+        script(small.kit / "bin" / "rt", RT)
+        assert small.run("tiny", "a") == (0, ["a"], []) and small.calls() == []
+        (small.root / "crates" / "low" / "src" / "lib.rt").write_text("// It is changed.\n")
+        assert small.run("tiny", "a")[:2] == (0, ["a"]) and small.calls() == CALL
 
 
 def ended(words, data="/dev/null", shell=""):

@@ -10,7 +10,7 @@ ROOT = pathlib.Path(__file__).resolve().parent.parent
 def sentences():
     """The sentence of each refusal, from 1 on, as the definition has them."""
     text = (ROOT / "crates" / "words" / "specs" / "Words.antt").read_text()
-    definition = text.split("abbrev pub refusals")[1].split("abbrev pub refusalText")[0]
+    definition = text.split("abbrev pub refusals")[1].split("abbrev pub refusal_text")[0]
     return "".join(re.findall(r'ascii "([^"]*)"', definition)).split(";")[1:]
 
 
@@ -41,7 +41,7 @@ def joined(name, file):
 def test_fields_are_worded_as_worked_out_apart():
     kinds = joined("fields", "Fields.antt").split(";")[1:]
     assert [kind[1:].split("|") for kind in kinds] == [row.split("|") for row in FIELDS.values()]
-    letters, forms = joined("formLetters", "Fields.antt"), joined("forms", "Fields.antt").split(";")
+    letters, forms = joined("form_letters", "Fields.antt"), joined("forms", "Fields.antt").split(";")
     assert dict(zip(letters, forms, strict=True)) == {letter: ", " + form for letter, form in FORMS.items()}
 
 

@@ -12,8 +12,7 @@ use receiver::Counts;
 
 // Stores the settings at start as eleven numbers at the start of `settings`, and returns 0; or 8 where that is too
 // short, and then `settings` is left. `line` and `field`, those of the refusal, are set to 0.
-#[unsafe(no_mangle)]
-pub extern "C" fn castanwel_start(settings: &mut [i64], line: &mut usize, field: &mut usize) -> u8
+pub fn castanwel_start(settings: &mut [i64], line: &mut usize, field: &mut usize) -> u8
     ensures value { result ≡ start_no settings.old }
     ensures line_after { (line.new ≡ 0) × (field.new ≡ 0) }
     ensures settings_after { settings.new ≡ laid (setting_numbers at_start) settings.old }
@@ -48,8 +47,7 @@ fn step(settings: &mut [i64], arrival: u32, line: &[u8], out: &mut [u8]) -> Writ
 // Carries out the command in `line`, which arrived on port `arrival`, on the settings, and writes the reply into
 // `out`. Returns the number of the refusal, 0 where there is a reply. `length` is set to the length of the reply,
 // `at_line` and `field` to those of the refusal, or to 0. A refusal leaves `settings`, `out` and `length`.
-#[unsafe(no_mangle)]
-pub extern "C" fn castanwel_step(
+pub fn castanwel_step(
     settings: &mut [i64],
     arrival: u32,
     line: &[u8],
@@ -93,8 +91,7 @@ fn counts(settings: &[i64]) -> Counts
 
 // Sets `gps` and `glonass` to how many satellites of each the settings allow, and returns 0; or 5 where the settings
 // are not eleven numbers in range, and then both are left. `line` and `field` are set to those of the refusal, or to 0.
-#[unsafe(no_mangle)]
-pub extern "C" fn castanwel_counts(
+pub fn castanwel_counts(
     settings: &[i64],
     gps: &mut u32,
     glonass: &mut u32,

@@ -9,8 +9,7 @@ use runs::Open;
 // Whether `line`, the next that was found, stands in a run: it reads as GSV. `lines` and `last` say what is open, how many
 // lines it has, 0 where none is, and the number that its first announced as last; they are set to what is open behind the
 // line. `before` is set to whether the open run ends before the line, `ends` to whether the line's own ends with it.
-#[unsafe(no_mangle)]
-pub extern "C" fn castanwel_run_step(
+pub fn castanwel_run_step(
     lines: &mut u32,
     last: &mut u32,
     line: &[u8],

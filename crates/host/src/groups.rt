@@ -11,8 +11,7 @@ use sky::Whose;
 // Reads the lines in `s` as a group, and returns the number of its refusal, 0 where it is a whole sky. Then its
 // 254 numbers stand at the start of `numbers`; 8 where that is too short. `line` and `field` are set to those of the
 // refusal, or to 0. A refusal leaves `numbers`.
-#[unsafe(no_mangle)]
-pub extern "C" fn castanwel_read_group(
+pub fn castanwel_read_group(
     s: &[u8],
     numbers: &mut [i64],
     line: &mut usize,
@@ -56,8 +55,7 @@ fn write_numbers(numbers: &[i64], out: &mut [u8]) -> Written
 // Writes the group that `numbers` say into `out`, and returns the number of its refusal, 0 where it was written.
 // `length` is set to the length of what was written, `line` and `field` to those of the refusal, or to 0. A refusal leaves
 // `out` and `length`.
-#[unsafe(no_mangle)]
-pub extern "C" fn castanwel_write_group(
+pub fn castanwel_write_group(
     numbers: &[i64],
     out: &mut [u8],
     length: &mut usize,

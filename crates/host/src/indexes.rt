@@ -11,8 +11,7 @@ use index::Entry;
 
 // Writes the index of `entries` into `out` and sets `size` to its length. Refused: 5 where the numbers are not threes or
 // an entry is out of range or order; then 8. A refusal leaves `out` and `size`.
-#[unsafe(no_mangle)]
-pub extern "C" fn castanwel_index_write(
+pub fn castanwel_index_write(
     entries: &[u64],
     out: &mut [u8],
     size: &mut usize,
@@ -35,8 +34,7 @@ pub extern "C" fn castanwel_index_write(
 
 // Reads `index` to numbers at the start of `entries`, and sets `count` to how many entries there are. Refused: 11 for
 // bytes that are no index; then 8. A refusal leaves `entries` and `count`.
-#[unsafe(no_mangle)]
-pub extern "C" fn castanwel_index_read(
+pub fn castanwel_index_read(
     index: &[u8],
     entries: &mut [u64],
     count: &mut usize,
@@ -60,8 +58,7 @@ pub extern "C" fn castanwel_index_read(
 // Adds the entry of three numbers at the end of the index in the first `used` bytes of `index`, and sets `after` to the
 // length of the index then. Refused: 11 where these bytes are no index or `used` passes the end; 5 where the entry does
 // not fit behind the last; 8 where there is no room for it. A refusal leaves `index` and `after`.
-#[unsafe(no_mangle)]
-pub extern "C" fn castanwel_index_add(
+pub fn castanwel_index_add(
     index: &mut [u8],
     used: usize,
     number: u64,
@@ -92,8 +89,7 @@ pub extern "C" fn castanwel_index_add(
 
 // Finds the exhibit `number` in `index`, and sets `offset` and `size` to those of its line. Refused: 11 for bytes that are
 // no index, whatever the number is; then 12. A refusal leaves `offset` and `size`.
-#[unsafe(no_mangle)]
-pub extern "C" fn castanwel_index_find(
+pub fn castanwel_index_find(
     index: &[u8],
     number: u64,
     offset: &mut u64,

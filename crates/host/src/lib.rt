@@ -1,4 +1,4 @@
-// The library's functions as Rust or C calls them, on numbers and lent bytes.
+// The library's functions as Rust or C calls them, on numbers and lent bytes: host_c exports each for C.
 #![tactic(auto)]
 
 mod answers;
@@ -19,8 +19,7 @@ ghost use Rattle.host.specs.Answer.{set_at, single_line};
 
 // What the line rule says of `line`: 0 where it is a line, 1 where the rule fails, 2 where the two
 // digits differ from the XOR of the body.
-#[unsafe(no_mangle)]
-pub extern "C" fn castanwel_line_refusal(line: &[u8]) -> u8
+pub fn castanwel_line_refusal(line: &[u8]) -> u8
     ensures { result ≡ line_refusal line.now }
 {
     line::line_refusal(line)
@@ -28,13 +27,7 @@ pub extern "C" fn castanwel_line_refusal(line: &[u8]) -> u8
 
 // Whether `s` has a line from `at` on. The first one lies from `start` up to `end`. Where there is none, `end` is the end
 // of `s`, or `at` where that lies beyond it, and an unfinished line begins at `start`, which is `end` where nothing is.
-#[unsafe(no_mangle)]
-pub extern "C" fn castanwel_next_line(
-    s: &[u8],
-    at: usize,
-    start: &mut usize,
-    end: &mut usize,
-) -> bool
+pub fn castanwel_next_line(s: &[u8], at: usize, start: &mut usize, end: &mut usize) -> bool
     ensures value { result ≡ (found_at s.now at).line }
     ensures start_after { start.new ≡ (found_at s.now at).start }
     ensures end_after { end.new ≡ (found_at s.now at).end }
@@ -47,8 +40,7 @@ pub extern "C" fn castanwel_next_line(
 
 // Feeds the byte `b` to a finder that holds `held` bytes, and returns how many it holds next. `line` is
 // set to the length of the line that `b` ends, or to 0 where it ends none.
-#[unsafe(no_mangle)]
-pub extern "C" fn castanwel_feed(held: usize, b: u8, line: &mut usize) -> usize
+pub fn castanwel_feed(held: usize, b: u8, line: &mut usize) -> usize
     ensures value { result ≡ held_next held b }
     ensures line_after { line.new ≡ ends_here held b }
 {
@@ -59,8 +51,7 @@ pub extern "C" fn castanwel_feed(held: usize, b: u8, line: &mut usize) -> usize
 
 // How many fields the body of a line has, the address among them. The place where each ends is stored in
 // `ends`, one after another, as far as there is room.
-#[unsafe(no_mangle)]
-pub extern "C" fn castanwel_places(body: &[u8], ends: &mut [usize]) -> usize
+pub fn castanwel_places(body: &[u8], ends: &mut [usize]) -> usize
     ensures { Placed body.now ends.old result ends.new }
 {
     fields::places(body, ends)
@@ -70,8 +61,7 @@ pub extern "C" fn castanwel_places(body: &[u8], ends: &mut [usize]) -> usize
 // answer is 1 to 3, or 4 where there is no field n. `at_line` is set to the line of the refusal, 1, or to 0, and `field` to 0.
 //
 //     $GPGSV,1,1,01,05,,,*7D    field 4 is 05, from 14 up to 16
-#[unsafe(no_mangle)]
-pub extern "C" fn castanwel_field(
+pub fn castanwel_field(
     line: &[u8],
     n: usize,
     start: &mut usize,
@@ -97,8 +87,7 @@ pub extern "C" fn castanwel_field(
 
 // Reads `line` to its record, and returns the number of its refusal, 0 where it reads. `at_line` is set to its line, 1, and
 // `field` to its field; each to 0 where there is none.
-#[unsafe(no_mangle)]
-pub extern "C" fn castanwel_refusal(line: &[u8], at_line: &mut usize, field: &mut usize) -> u8
+pub fn castanwel_refusal(line: &[u8], at_line: &mut usize, field: &mut usize) -> u8
     ensures value { result ≡ (refusal_of (read_line line.now)).no }
     ensures at_line_after { at_line.new ≡ single_line (refusal_of (read_line line.now)).no }
     ensures field_after { field.new ≡ (refusal_of (read_line line.now)).field }

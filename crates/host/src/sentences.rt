@@ -10,8 +10,7 @@ use crate::answers;
 // Reads `line` to its record, stores the record's numbers at the start of `numbers`, sets `kind` to its kind and answers 0. Else
 // `kind` and `numbers` are left, and the answer is the refusal of the line, or 8 where `numbers` is too short. `at_line` and `field`
 // are set to those of the refusal, 1 and its field for a line's own, or to 0.
-#[unsafe(no_mangle)]
-pub extern "C" fn castanwel_read(
+pub fn castanwel_read(
     line: &[u8],
     numbers: &mut [i64],
     kind: &mut u32,
@@ -36,8 +35,7 @@ pub extern "C" fn castanwel_read(
 // answers 0. Else `length` and `out` are left, and the answer is the refusal with its `line` and `field`: 5 for
 // too few numbers and 3 for what is no kind or no talker, both on line 0; 5 on line 1 in field 1 for a GPS mask
 // that 32 bits do not hold; or as the kind's writer does.
-#[unsafe(no_mangle)]
-pub extern "C" fn castanwel_write(
+pub fn castanwel_write(
     kind: u32,
     numbers: &[i64],
     out: &mut [u8],
