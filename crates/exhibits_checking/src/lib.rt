@@ -4,10 +4,12 @@
 use exhibits_walks::entries::Step;
 use exhibits_walks::lines::There;
 use index::Entry;
-use libc::STDOUT_FILENO;
+use std::io;
+use std::io::{Read, Seek, Write};
+use std::rt::Files;
 
 // How many exhibits are a line of the log, how many are none, and whether the log could be read.
-#[derive(Drop)]
+#[derive(Clone, Copy)]
 struct Checked {
     right: u64,
     wrong: u64,
@@ -31,9 +33,15 @@ fn one_right(c: Checked) -> Checked {
 }
 
 // One exhibit more that is no line. The first ten are named.
-fn one_wrong(c: Checked, logged: &[u8], index: &[u8], exhibit: u64) -> Checked {
+fn one_wrong<E: Write>(
+    err: &mut E,
+    c: Checked,
+    logged: &[u8],
+    index: &[u8],
+    exhibit: u64,
+) -> Checked {
     if c.wrong < 10 {
-        exhibits_says::no_line_of(logged, index, exhibit);
+        exhibits_says::no_line_of(err, logged, index, exhibit);
     }
     Checked {
         right: c.right,
@@ -42,8 +50,8 @@ fn one_wrong(c: Checked, logged: &[u8], index: &[u8], exhibit: u64) -> Checked {
     }
 }
 
-fn unread(c: Checked, logged: &[u8]) -> Checked {
-    exhibits_says::unread_log(logged);
+fn unread<E: Write>(err: &mut E, c: Checked, logged: &[u8], e: io::Error) -> Checked {
+    exhibits_says::unread_log(err, logged, e);
     Checked {
         right: c.right,
         wrong: c.wrong,
@@ -52,71 +60,98 @@ fn unread(c: Checked, logged: &[u8]) -> Checked {
 }
 
 // Looks whether an exhibit is a line of the log.
-fn look(log: i32, c: Checked, e: Entry, logged: &[u8], index: &[u8]) -> Checked {
+fn look<L: Read + Seek, E: Write>(
+    err: &mut E,
+    log: &mut L,
+    c: Checked,
+    e: Entry,
+    logged: &[u8],
+    index: &[u8],
+) -> Checked {
     let mut line = [0u8; 82];
     let there = exhibits_walks::lines::at_entry(log, &mut line, e);
     match there {
         There::Line(_) => one_right(c),
-        There::Other => one_wrong(c, logged, index, e.number),
-        There::Failed => unread(c, logged),
+        There::Other => one_wrong(err, c, logged, index, e.number),
+        There::Failed(why) => unread(err, c, logged, why),
     }
 }
 
 // Says how many exhibits are no line of the log.
-fn say_wrong(c: Checked, logged: &[u8], index: &[u8]) {
-    exhibits_says::counted(b"exhibits: ", c.wrong, b" of the ");
-    exhibits_says::counted(b"", exhibits_walks::sum(c.right, c.wrong), b" exhibits of ");
-    exhibits_says::bytes(index);
-    exhibits_says::bytes(b" are no line of ");
-    exhibits_says::bytes(logged);
-    exhibits_says::bytes(b"\n");
+fn say_wrong<E: Write>(err: &mut E, c: Checked, logged: &[u8], index: &[u8]) {
+    exhibits_says::counted(err, b"exhibits: ", c.wrong, b" of the ");
+    exhibits_says::counted(
+        err,
+        b"",
+        exhibits_walks::sum(c.right, c.wrong),
+        b" exhibits of ",
+    );
+    exhibits_says::bytes(err, index);
+    exhibits_says::bytes(err, b" are no line of ");
+    exhibits_says::bytes(err, logged);
+    exhibits_says::bytes(err, b"\n");
+}
+
+// Writes that each exhibit is a line of the log.
+fn say_right<W: Write>(to: &mut W, c: Checked) -> io::Result<()> {
+    let counted = write!(to, "{}", c.right);
+    let told = to.write_all(b" exhibits, each is a line of this log\n");
+    told.and(counted)
 }
 
 // Says what all exhibits came to.
-fn tell(c: Checked, logged: &[u8], index: &[u8]) {
+fn tell<W: Write, E: Write>(to: &mut W, err: &mut E, c: Checked, logged: &[u8], index: &[u8]) {
     if 0 < c.wrong {
-        return say_wrong(c, logged, index);
+        return say_wrong(err, c, logged, index);
     }
-    let counted = io::print_decimal(STDOUT_FILENO, c.right);
-    let told = io::write_all(STDOUT_FILENO, b" exhibits, each is a line of this log\n");
-    if !(counted & told) {
-        exhibits_says::no_output();
+    if let Err(e) = say_right(to, c) {
+        exhibits_says::no_output(err, e);
     }
 }
 
 // Looks at each exhibit of the index.
-fn check_entries(fd: i32, log: i32, buf: &mut [u8], logged: &[u8], index: &[u8]) {
+fn check_entries<F: Read, L: Read + Seek, W: Write, E: Write>(
+    to: &mut W,
+    err: &mut E,
+    file: &mut F,
+    log: &mut L,
+    buf: &mut [u8],
+    logged: &[u8],
+    index: &[u8],
+) {
     let mut walk = exhibits_walks::entries::start();
     let mut checked = nothing();
-    let mut left = u64::MAX;
-    while 0 < left {
-        let step = exhibits_walks::entries::next(fd, buf, walk);
+    for _ in 0..u64::MAX {
+        let step = exhibits_walks::entries::next(file, buf, walk);
         match step {
             Step::At(on) => {
                 let last = on.last;
-                checked = look(log, checked, last, logged, index);
+                checked = look(err, log, checked, last, logged, index);
                 walk = on;
             }
-            Step::End => return tell(checked, logged, index),
-            Step::Bad => return exhibits_says::no_index(index),
-            Step::Failed => return exhibits_says::unread_index(index),
+            Step::End => return tell(to, err, checked, logged, index),
+            Step::Bad => return exhibits_says::no_index(err, index),
+            Step::Failed(e) => return exhibits_says::unread_index(err, index, e),
         }
         if !checked.read {
             return;
         }
-        left -= 1;
     }
 }
 
 // Says whether every exhibit of the index is a line that the finder gives out in the log, and else which is not.
-pub fn check(logged: &[u8], index: &[u8]) {
-    let mut buf = io::large_buffer();
-    let fd = exhibits_says::files::whole_index(index, &mut buf);
-    if fd < 0 {
+pub fn check<R: Files, W: Write, E: Write>(
+    files: &R,
+    to: &mut W,
+    err: &mut E,
+    logged: &[u8],
+    index: &[u8],
+) {
+    let mut buf = [0u8; 65536];
+    let Some(mut file) = exhibits_says::files::whole_index(files, err, index, &mut buf) else {
         return;
-    }
-    let log = exhibits_says::files::log(logged);
-    if 0 <= log {
-        check_entries(fd, log, &mut buf, logged, index);
+    };
+    if let Some(mut log) = exhibits_says::files::log(files, err, logged) {
+        check_entries(to, err, &mut file, &mut log, &mut buf, logged, index);
     }
 }

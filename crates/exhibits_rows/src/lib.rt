@@ -2,25 +2,26 @@
 #![tactic(auto)]
 
 use exhibits_lists::Row;
-use libc::STDIN_FILENO;
+use std::io;
+use std::io::Read;
 use turns::Came;
 
 // Where reading the list stands: the buffer's bytes from `at` up to `end` come next, and `rows` rows stand before them.
-#[derive(Drop)]
+#[derive(Clone, Copy)]
 pub struct Walk {
     pub at: usize,
     pub end: usize,
     pub rows: u64,
 }
 
-// What comes next: a row; the end; a row that is longer than any row may be; or a list that cannot be read, of which
-// errno tells.
+// What comes next: a row; the end; a row that is longer than any row may be; or a list that cannot be read, and
+// why.
 #[derive(Drop)]
 pub enum Step {
     Row(Walk, Row),
     End,
     Long(Walk),
-    Failed,
+    Failed(io::Error),
 }
 
 #[derive(Drop)]
@@ -29,7 +30,7 @@ enum More {
     Last(usize),
     End,
     Full,
-    Failed,
+    Failed(io::Error),
 }
 
 pub fn start() -> Walk {
@@ -80,11 +81,11 @@ fn step_to(buf: &[u8], w: Walk, a: usize, e: usize, next: usize) -> Step {
 }
 
 // Keeps the bytes of a row that is not whole, and reads more behind them. The last row needs no LF.
-fn read_on(buf: &mut [u8], w: Walk) -> More {
+fn read_on<R: Read>(from: &mut R, buf: &mut [u8], w: Walk) -> More {
     let at = w.at;
     let end = w.end;
     let kept = turns::keep(buf, at, end);
-    let came = turns::read_more(STDIN_FILENO, buf, kept);
+    let came = turns::read_more(from, buf, kept);
     match came {
         Came::Bytes(n) => More::On(Walk {
             at: 0,
@@ -98,28 +99,26 @@ fn read_on(buf: &mut [u8], w: Walk) -> More {
             More::Last(kept)
         }
         Came::Full => More::Full,
-        Came::Failed => More::Failed,
+        Came::Failed(e) => More::Failed(e),
     }
 }
 
 // The next row of the list.
-pub fn next(buf: &mut [u8], w: Walk) -> Step {
+pub fn next<R: Read>(from: &mut R, buf: &mut [u8], w: Walk) -> Step {
     let mut walk = w;
-    let mut left = u64::MAX;
-    while 0 < left {
+    for _ in 0..u64::MAX {
         let lf = lf_in(buf, walk);
         if lf < walk.end {
             return step_to(buf, walk, walk.at, lf, lf + 1);
         }
-        let more = read_on(buf, walk);
+        let more = read_on(from, buf, walk);
         match more {
             More::On(on) => walk = on,
             More::Last(n) => return step_to(buf, walk, 0, n, walk.end),
             More::End => return Step::End,
             More::Full => return Step::Long(behind(walk, walk.end)),
-            More::Failed => return Step::Failed,
+            More::Failed(e) => return Step::Failed(e),
         }
-        left -= 1;
     }
     Step::End
 }

@@ -1,48 +1,71 @@
 // Files that are read, opened by name.
 use exhibits_walks::entries::{Ended, Scanned};
+use std::io::{Read, Seek, Write};
+use std::rt::Files;
+use std::{fs, io, str};
 
-fn opened(what: &[u8], name: &[u8]) -> i32 {
-    let fd = os::open_read(name);
-    if fd < 0 {
-        crate::failed(what, name, b" cannot be opened");
+// The number by which the system names bytes that are no text.
+const EILSEQ: i32 = 84;
+
+// A file's name as std takes it, which has to be UTF-8.
+pub fn path(name: &[u8]) -> io::Result<&str> {
+    match str::from_utf8(name) {
+        Ok(text) => Ok(text),
+        Err(_) => Err(io::Error::from_raw_os_error(EILSEQ)),
     }
-    fd
 }
 
-// The log opened for reading, or -1, which is said.
-pub fn log(name: &[u8]) -> i32 {
-    opened(b"the log ", name)
+// A file opened for reading.
+pub fn open<R: Files>(files: &R, name: &[u8]) -> io::Result<R::File> {
+    fs::open(files, path(name)?)
 }
 
-// The index opened for reading, or -1, which is said.
-pub fn index(name: &[u8]) -> i32 {
-    opened(b"the index ", name)
+fn opened<R: Files, E: Write>(files: &R, err: &mut E, what: &[u8], name: &[u8]) -> Option<R::File> {
+    match open(files, name) {
+        Ok(file) => Some(file),
+        Err(e) => {
+            crate::failed(err, what, name, b" cannot be opened", e);
+            None
+        }
+    }
 }
 
-// The index opened at its beginning, once it is known to be one; -1 where it is none, which is said.
-pub fn whole_index(name: &[u8], buf: &mut [u8]) -> i32 {
-    let fd = index(name);
-    if fd < 0 {
-        return fd;
+// The log opened for reading, or nothing, which is said.
+pub fn log<R: Files, E: Write>(files: &R, err: &mut E, name: &[u8]) -> Option<R::File> {
+    opened(files, err, b"the log ", name)
+}
+
+// The index opened for reading, or nothing, which is said.
+pub fn index<R: Files, E: Write>(files: &R, err: &mut E, name: &[u8]) -> Option<R::File> {
+    opened(files, err, b"the index ", name)
+}
+
+// The index opened at its beginning, once it is known to be one; nothing where it is none, which is said.
+pub fn whole_index<R: Files, E: Write>(
+    files: &R,
+    err: &mut E,
+    name: &[u8],
+    buf: &mut [u8],
+) -> Option<R::File> {
+    let mut file = index(files, err, name)?;
+    let scan = exhibits_walks::entries::scan(&mut file, buf, 0);
+    if !is_whole(err, name, scan) {
+        return None;
     }
-    let scan = exhibits_walks::entries::scan(fd, buf, 0);
-    if !is_whole(name, scan) {
-        return -1;
+    if let Err(e) = file.rewind() {
+        crate::failed(err, b"the index ", name, b" cannot be read twice", e);
+        return None;
     }
-    if libc::lseek(fd, 0, libc::SEEK_SET) == 0 {
-        return fd;
-    }
-    crate::failed(b"the index ", name, b" cannot be read twice");
-    -1
+    Some(file)
 }
 
 // Whether a scan went over a whole index; where it did not, that is said.
-pub fn is_whole(name: &[u8], scan: Scanned) -> bool {
+pub fn is_whole<E: Write>(err: &mut E, name: &[u8], scan: Scanned) -> bool {
     let ended = scan.ended;
     match ended {
         Ended::Whole => return true,
-        Ended::Bad => crate::no_index(name),
-        Ended::Failed => crate::unread_index(name),
+        Ended::Bad => crate::no_index(err, name),
+        Ended::Failed(e) => crate::unread_index(err, name, e),
     }
     false
 }

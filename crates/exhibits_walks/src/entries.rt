@@ -1,9 +1,11 @@
 // An index of any length, gone over in turns.
 use index::{Entry, Next};
+use std::io;
+use std::io::Read;
 use turns::Came;
 
 // Where going over an index stands: the buffer's bytes from `at` up to `end` come next, and `last` is the entry before them.
-#[derive(Drop)]
+#[derive(Clone, Copy)]
 pub struct Walk {
     pub at: usize,
     pub end: usize,
@@ -11,13 +13,13 @@ pub struct Walk {
 }
 
 // What comes next: an entry, which is the last of the walk then; the end of a whole index; bytes that are no index; or a
-// file that cannot be read, of which errno tells.
+// file that cannot be read, and why.
 #[derive(Drop)]
 pub enum Step {
     At(Walk),
     End,
     Bad,
-    Failed,
+    Failed(io::Error),
 }
 
 #[derive(Drop)]
@@ -25,7 +27,7 @@ enum More {
     On(Walk),
     End,
     Bad,
-    Failed,
+    Failed(io::Error),
 }
 
 pub fn start() -> Walk {
@@ -57,12 +59,12 @@ fn behind(w: Walk, e: Entry, at: usize) -> Walk {
 }
 
 // Keeps the bytes of an entry that is not whole, and reads more behind them. At the end no such bytes may be left.
-fn read_on(fd: i32, buf: &mut [u8], w: Walk) -> More {
+fn read_on<R: Read>(from: &mut R, buf: &mut [u8], w: Walk) -> More {
     let at = w.at;
     let end = w.end;
     let last = w.last;
     let kept = turns::keep(buf, at, end);
-    let came = turns::read_more(fd, buf, kept);
+    let came = turns::read_more(from, buf, kept);
     match came {
         Came::Bytes(n) => More::On(Walk {
             at: 0,
@@ -76,39 +78,37 @@ fn read_on(fd: i32, buf: &mut [u8], w: Walk) -> More {
             More::Bad
         }
         Came::Full => More::Bad,
-        Came::Failed => More::Failed,
+        Came::Failed(e) => More::Failed(e),
     }
 }
 
 // The next entry of the index.
-pub fn next(fd: i32, buf: &mut [u8], w: Walk) -> Step {
+pub fn next<R: Read>(from: &mut R, buf: &mut [u8], w: Walk) -> Step {
     let mut walk = w;
-    let mut left = u64::MAX;
-    while 0 < left {
+    for _ in 0..u64::MAX {
         let there = entry_in(buf, walk);
         match there {
             Next::Is(e, at) => return Step::At(behind(walk, e, at)),
             Next::Short => {}
             Next::Bad => return Step::Bad,
         }
-        let more = read_on(fd, buf, walk);
+        let more = read_on(from, buf, walk);
         match more {
             More::On(on) => walk = on,
             More::End => return Step::End,
             More::Bad => return Step::Bad,
-            More::Failed => return Step::Failed,
+            More::Failed(e) => return Step::Failed(e),
         }
-        left -= 1;
     }
     Step::Bad
 }
 
-// What going over a whole index comes to: it is whole, it is no index, or it cannot be read, of which errno tells.
+// What going over a whole index comes to: it is whole, it is no index, or it cannot be read, and why.
 #[derive(Drop)]
 pub enum Ended {
     Whole,
     Bad,
-    Failed,
+    Failed(io::Error),
 }
 
 // The same with the last entry, and the entry of the exhibit that was looked for, where it was found.
@@ -161,12 +161,11 @@ fn behind_entry(s: Scanned, e: Entry, number: u64) -> Scanned {
 }
 
 // Goes over the whole index and looks for the exhibit with a number.
-pub fn scan(fd: i32, buf: &mut [u8], number: u64) -> Scanned {
+pub fn scan<R: Read>(from: &mut R, buf: &mut [u8], number: u64) -> Scanned {
     let mut s = nothing();
     let mut walk = start();
-    let mut left = u64::MAX;
-    while 0 < left {
-        let step = next(fd, buf, walk);
+    for _ in 0..u64::MAX {
+        let step = next(from, buf, walk);
         match step {
             Step::At(on) => {
                 let last = on.last;
@@ -175,9 +174,8 @@ pub fn scan(fd: i32, buf: &mut [u8], number: u64) -> Scanned {
             }
             Step::End => return s,
             Step::Bad => return with_end(s, Ended::Bad),
-            Step::Failed => return with_end(s, Ended::Failed),
+            Step::Failed(e) => return with_end(s, Ended::Failed(e)),
         }
-        left -= 1;
     }
     s
 }

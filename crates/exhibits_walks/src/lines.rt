@@ -2,11 +2,13 @@
 use crate::sum;
 use finder::Found;
 use index::Entry;
+use std::io;
+use std::io::{Read, Seek, SeekFrom};
 use turns::Came;
 
 // Where going over a log stands: the buffer holds the log's bytes from `base` on up to its place `end`, the next line is
 // looked for from `at` on, and `lines` were found before.
-#[derive(Drop)]
+#[derive(Clone, Copy)]
 pub struct Walk {
     pub at: usize,
     pub end: usize,
@@ -15,19 +17,19 @@ pub struct Walk {
 }
 
 // What comes next: a line as the entry whose exhibit number is the line's own; the end, with how many lines there were;
-// or a log that cannot be read, of which errno tells.
+// or a log that cannot be read, and why.
 #[derive(Drop)]
 pub enum Step {
     Line(Walk, Entry),
     End(u64),
-    Failed,
+    Failed(io::Error),
 }
 
 #[derive(Drop)]
 enum More {
     On(Walk),
     End,
-    Failed,
+    Failed(io::Error),
 }
 
 pub fn start() -> Walk {
@@ -75,10 +77,10 @@ fn step_to(w: Walk, found: Found) -> Step {
 }
 
 // Keeps the bytes from `from` on, and reads more behind them.
-fn read_on(fd: i32, buf: &mut [u8], w: Walk, from: usize) -> More {
+fn read_on<R: Read>(log: &mut R, buf: &mut [u8], w: Walk, from: usize) -> More {
     let end = w.end;
     let kept = turns::keep(buf, from, end);
-    let came = turns::read_more(fd, buf, kept);
+    let came = turns::read_more(log, buf, kept);
     match came {
         Came::Bytes(n) => More::On(Walk {
             at: 0,
@@ -88,36 +90,33 @@ fn read_on(fd: i32, buf: &mut [u8], w: Walk, from: usize) -> More {
         }),
         Came::End => More::End,
         Came::Full => More::End,
-        Came::Failed => More::Failed,
+        Came::Failed(e) => More::Failed(e),
     }
 }
 
 // The next line of the log. The reads are counted down from a number that no run uses up, so that the loop ends.
-pub fn next(fd: i32, buf: &mut [u8], w: Walk) -> Step {
+pub fn next<R: Read>(log: &mut R, buf: &mut [u8], w: Walk) -> Step {
     let mut walk = w;
-    let mut left = u64::MAX;
-    while 0 < left {
+    for _ in 0..u64::MAX {
         let found = find_in(buf, walk);
         if found.line {
             return step_to(walk, found);
         }
-        let more = read_on(fd, buf, walk, found.start);
+        let more = read_on(log, buf, walk, found.start);
         match more {
             More::On(on) => walk = on,
             More::End => return Step::End(walk.lines),
-            More::Failed => return Step::Failed,
+            More::Failed(e) => return Step::Failed(e),
         }
-        left -= 1;
     }
     Step::End(walk.lines)
 }
 
 // The line with a number, from where `w` stands on.
-pub fn line(fd: i32, buf: &mut [u8], w: Walk, number: u64) -> Step {
+pub fn line<R: Read>(log: &mut R, buf: &mut [u8], w: Walk, number: u64) -> Step {
     let mut walk = w;
-    let mut left = u64::MAX;
-    while 0 < left {
-        let step = next(fd, buf, walk);
+    for _ in 0..u64::MAX {
+        let step = next(log, buf, walk);
         match step {
             Step::Line(on, e) => {
                 if e.number == number {
@@ -126,19 +125,18 @@ pub fn line(fd: i32, buf: &mut [u8], w: Walk, number: u64) -> Step {
                 walk = on;
             }
             Step::End(lines) => return Step::End(lines),
-            Step::Failed => return Step::Failed,
+            Step::Failed(e) => return Step::Failed(e),
         }
-        left -= 1;
     }
     Step::End(walk.lines)
 }
 
-// What stands in the log where an entry says: a line, which is in the buffer then; no line; or bytes that cannot be read.
+// What stands in the log where an entry says: a line, which is in the buffer then; no line; or bytes that cannot be read, and why.
 #[derive(Drop)]
 pub enum There {
     Line(usize),
     Other,
-    Failed,
+    Failed(io::Error),
 }
 
 // Whether all of `s` is one line that the finder gives out.
@@ -155,8 +153,14 @@ fn is_line_of(buf: &[u8], n: usize) -> bool {
     false
 }
 
+// Reads once from an offset on.
+fn read_at<F: Read + Seek>(log: &mut F, buf: &mut [u8], offset: u64) -> io::Result<usize> {
+    log.seek(SeekFrom::Start(offset))?;
+    log.read(buf)
+}
+
 // Reads the bytes of an entry's line by one read.
-pub fn at_entry(fd: i32, buf: &mut [u8], e: Entry) -> There {
+pub fn at_entry<F: Read + Seek>(log: &mut F, buf: &mut [u8], e: Entry) -> There {
     if 4294967295 < e.offset {
         return There::Other;
     }
@@ -164,12 +168,13 @@ pub fn at_entry(fd: i32, buf: &mut [u8], e: Entry) -> There {
         return There::Other;
     }
     let n = e.length as usize;
-    let got = libc::pread(fd, &mut buf[0..n], e.offset as i64);
-    if got < 0 {
-        return There::Failed;
-    }
-    if io::count(got, &buf[0..n]) != n {
-        return There::Other;
+    match read_at(log, &mut buf[0..n], e.offset) {
+        Err(why) => return There::Failed(why),
+        Ok(got) => {
+            if got != n {
+                return There::Other;
+            }
+        }
     }
     if is_line_of(buf, n) {
         return There::Line(n);

@@ -7,7 +7,9 @@ ghost use Rattle.put.specs.Wrote.{held, Puts};
 ghost use Rattle.sentence.specs.Lines.{read_line};
 ghost use Rattle.rows.specs.Row.{row_text};
 
-use libc::{STDERR_FILENO, STDIN_FILENO, STDOUT_FILENO};
+use std::io;
+use std::io::{Read, Write};
+use std::rt::Env;
 use tally::Tally;
 use turns::Came;
 
@@ -23,7 +25,7 @@ pub struct So {
 pub struct Listed {
     from: usize,
     so: So,
-    written: bool,
+    written: io::Result<()>,
 }
 
 // Whether the next rows may not fit into `out` from `place` on.
@@ -45,17 +47,17 @@ fn list_line(out: &mut [u8], place: usize, number: u64, line: &[u8], dumps: bool
 }
 
 // Writes a row for each line of `s`, by way of `out`, which holds many rows.
-fn list_lines(s: &[u8], out: &mut [u8], so: So, dumps: bool) -> Listed {
+fn list_lines<W: Write>(to: &mut W, s: &[u8], out: &mut [u8], so: So, dumps: bool) -> Listed {
     let beside = so.beside;
     let mut number = so.rows;
     let mut at: usize = 0;
     let mut place: usize = 0;
-    let mut written = true;
+    let mut written = Ok(());
     loop {
         let found = finder::next_line(s, at);
         let start = found.start;
         if !found.line {
-            written = written & turns::flush(STDOUT_FILENO, out, place);
+            written = turns::flush(to, out, place).and(written);
             return Listed {
                 from: start,
                 so: So {
@@ -69,7 +71,7 @@ fn list_lines(s: &[u8], out: &mut [u8], so: So, dumps: bool) -> Listed {
         number = rows::next(number);
         place = list_line(out, place, number, &s[start..end], dumps);
         if is_full(out, place) {
-            written = written & turns::flush(STDOUT_FILENO, out, place);
+            written = turns::flush(to, out, place).and(written);
             place = 0;
         }
         at = end;
@@ -96,21 +98,30 @@ fn stop(so: So, done: bool, kept: usize) -> Turn {
 }
 
 // Lists the lines of `s` as asked for.
-fn list(s: &[u8], out: &mut [u8], counts: &mut [u64], so: So, asked: Asked) -> Listed {
+fn list<W: Write>(
+    to: &mut W,
+    s: &[u8],
+    out: &mut [u8],
+    counts: &mut [u64],
+    so: So,
+    asked: Asked,
+) -> Listed {
     match asked {
-        Asked::Rows => list_lines(s, out, so, false),
-        Asked::Records => list_lines(s, out, so, true),
-        Asked::Words => worded::list_lines(s, out, counts, so),
+        Asked::Rows => list_lines(to, s, out, so, false),
+        Asked::Records => list_lines(to, s, out, so, true),
+        Asked::Words => worded::list_lines(to, s, out, counts, so),
     }
 }
 
-fn failed(why: &[u8], so: So) -> Turn {
-    os::fail(why);
+fn failed<E: Write>(err: &mut E, why: &[u8], e: io::Error, so: So) -> Turn {
+    turns::fail(err, why, e);
     stop(so, false, 0)
 }
 
 // Lists the lines of the first `n` bytes that are whole, and keeps the bytes of an unfinished one.
-fn list_bytes(
+fn list_bytes<W: Write, E: Write>(
+    to: &mut W,
+    err: &mut E,
     buf: &mut [u8],
     out: &mut [u8],
     counts: &mut [u64],
@@ -121,10 +132,10 @@ fn list_bytes(
     if buf.len() < n {
         return stop(so, false, 0);
     }
-    let listed = list(&buf[0..n], out, counts, so, asked);
+    let listed = list(to, &buf[0..n], out, counts, so, asked);
     let after = listed.so;
-    if !listed.written {
-        return failed(b"listing: standard output cannot be written", after);
+    if let Err(e) = listed.written {
+        return failed(err, b"listing: standard output cannot be written", e, after);
     }
     let from = listed.from;
     Turn {
@@ -136,7 +147,10 @@ fn list_bytes(
 }
 
 // Reads once and lists what came.
-fn take_turn(
+fn take_turn<R: Read, W: Write, E: Write>(
+    from: &mut R,
+    to: &mut W,
+    err: &mut E,
     buf: &mut [u8],
     out: &mut [u8],
     counts: &mut [u64],
@@ -144,17 +158,17 @@ fn take_turn(
     so: So,
     asked: Asked,
 ) -> Turn {
-    let came = turns::read_more(STDIN_FILENO, buf, kept);
+    let came = turns::read_more(from, buf, kept);
     match came {
-        Came::Bytes(n) => list_bytes(buf, out, counts, n, so, asked),
+        Came::Bytes(n) => list_bytes(to, err, buf, out, counts, n, so, asked),
         Came::End => stop(so, true, kept),
         Came::Full => stop(so, false, kept),
-        Came::Failed => failed(b"listing: standard input cannot be read", so),
+        Came::Failed(e) => failed(err, b"listing: standard input cannot be read", e, so),
     }
 }
 
 // Says what the log held, where words are asked for and all of it was listed.
-fn finish(buf: &[u8], counts: &[u64], t: Turn, asked: Asked) {
+fn finish<E: Write>(err: &mut E, buf: &[u8], counts: &[u64], t: Turn, asked: Asked) {
     let kept = t.kept;
     let so = t.so;
     if !t.done {
@@ -166,35 +180,40 @@ fn finish(buf: &[u8], counts: &[u64], t: Turn, asked: Asked) {
     match asked {
         Asked::Rows => return,
         Asked::Records => return,
-        Asked::Words => worded::say_counts(counts, so, &buf[0..kept]),
+        Asked::Words => worded::say_counts(err, counts, so, &buf[0..kept]),
     }
 }
 
 // A proved loop has to end, and nothing says that the input does: so the turns are counted down
 // from a number that no run uses up.
-fn list_all(buf: &mut [u8], out: &mut [u8], asked: Asked) {
+fn list_all<R: Read, W: Write, E: Write>(
+    from: &mut R,
+    to: &mut W,
+    err: &mut E,
+    buf: &mut [u8],
+    out: &mut [u8],
+    asked: Asked,
+) {
     let mut counts = [0u64; 6];
-    let mut left = u64::MAX;
     let mut kept: usize = 0;
     let mut so = So {
         rows: 0,
         beside: tally::start(),
     };
-    while 0 < left {
-        let t = take_turn(buf, out, &mut counts, kept, so, asked);
+    for _ in 0..u64::MAX {
+        let t = take_turn(from, to, err, buf, out, &mut counts, kept, so, asked);
         if !t.more {
-            finish(buf, &counts, t, asked);
+            finish(err, buf, &counts, t, asked);
             return;
         }
         let after = t.so;
         kept = t.kept;
         so = after;
-        left -= 1;
     }
 }
 
 // What the program's words ask for: a row for each line, the numbers of its record with it, or words.
-#[derive(Drop)]
+#[derive(Clone, Copy)]
 enum Asked {
     Rows,
     Records,
@@ -219,48 +238,58 @@ fn named(word: &[u8]) -> Word {
 }
 
 // What the program's words ask for; nothing where they are not understood.
-fn asked_for() -> Word {
-    if os::arg_count() < 2 {
+fn asked_for<V: Env>(env: &V) -> Word {
+    let count = turns::arg_count(env);
+    if count < 2 {
         return Word::Known(Asked::Rows);
     }
-    let mut word = [0u8; 16];
-    let n = os::arg(1, &mut word);
-    if (2 < os::arg_count()) | (os::errno() != 0) {
+    if 2 < count {
         return Word::Unknown;
     }
-    named(&word[0..n])
+    let mut word = [0u8; 16];
+    match env.arg(1, &mut word) {
+        Ok(n) => named(&word[0..n]),
+        Err(_) => Word::Unknown,
+    }
 }
 
-fn say_usage() {
-    io::write_all(
-        STDERR_FILENO,
+fn say_usage<E: Write>(err: &mut E) {
+    let _ = err.write_all(
         b"listing: it reads a log from standard input and takes no word, or one: 'records' adds the numbers of each record,\n",
     );
-    io::write_all(
-        STDERR_FILENO,
+    let _ = err.write_all(
         b"'words' the place of each line, why it was refused, and a count: listing < log, or listing words < log\n",
     );
 }
 
 // The first row, which names the columns.
-fn heading(asked: Asked) -> bool {
+fn heading<W: Write>(to: &mut W, asked: Asked) -> io::Result<()> {
     match asked {
-        Asked::Rows => io::write_all(STDOUT_FILENO, b"no address answer\n"),
-        Asked::Records => io::write_all(STDOUT_FILENO, b"no address answer\n"),
-        Asked::Words => io::write_all(STDOUT_FILENO, b"offset row no address answer\n"),
+        Asked::Rows => to.write_all(b"no address answer\n"),
+        Asked::Records => to.write_all(b"no address answer\n"),
+        Asked::Words => to.write_all(b"offset row no address answer\n"),
     }
 }
 
-fn main() {
-    let Word::Known(asked) = asked_for() else {
-        say_usage();
+fn main(rt: HostRuntime) {
+    let mut to = rt.stdout();
+    let mut err = rt.stderr();
+    let Word::Known(asked) = asked_for(&rt) else {
+        say_usage(&mut err);
         return;
     };
-    if !heading(asked) {
-        os::fail(b"listing: standard output cannot be written");
+    if let Err(e) = heading(&mut to, asked) {
+        turns::fail(&mut err, b"listing: standard output cannot be written", e);
         return;
     }
-    let mut buf = io::large_buffer();
-    let mut out = io::large_buffer();
-    list_all(&mut buf, &mut out, asked);
+    let mut buf = [0u8; 65536];
+    let mut out = [0u8; 65536];
+    list_all(
+        &mut rt.stdin(),
+        &mut to,
+        &mut err,
+        &mut buf,
+        &mut out,
+        asked,
+    );
 }

@@ -7,7 +7,7 @@ ghost use Rattle.rows_words.specs.Worded.{worded_text};
 ghost use Rattle.tally.specs.Tally.{plus};
 
 use crate::{Listed, So};
-use libc::{STDERR_FILENO, STDOUT_FILENO};
+use std::io::Write;
 use tally::Tally;
 
 // One more at place `i` of `counts`, if it has one.
@@ -41,18 +41,24 @@ fn list_line(
 }
 
 // Writes the rows of each line of `s`, by way of `out`, which holds many rows, and counts what stands beside them.
-pub fn list_lines(s: &[u8], out: &mut [u8], counts: &mut [u64], so: So) -> Listed {
+pub fn list_lines<W: Write>(
+    to: &mut W,
+    s: &[u8],
+    out: &mut [u8],
+    counts: &mut [u64],
+    so: So,
+) -> Listed {
     let mut number = so.rows;
     let mut beside = so.beside;
     let mut at: usize = 0;
     let mut place: usize = 0;
-    let mut written = true;
+    let mut written = Ok(());
     loop {
         let found = finder::next_line(s, at);
         let start = found.start;
         beside = tally::pass(beside, &s[at..start]);
         if !found.line {
-            written = written & turns::flush(STDOUT_FILENO, out, place);
+            written = turns::flush(to, out, place).and(written);
             return Listed {
                 from: start,
                 so: So {
@@ -67,45 +73,45 @@ pub fn list_lines(s: &[u8], out: &mut [u8], counts: &mut [u64], so: So) -> Liste
         place = list_line(out, place, counts, beside, number, &s[start..end]);
         beside = tally::take(beside, (end - start) as u64);
         if crate::is_full(out, place) {
-            written = written & turns::flush(STDOUT_FILENO, out, place);
+            written = turns::flush(to, out, place).and(written);
             place = 0;
         }
         at = end;
     }
 }
 
-fn say(s: &[u8]) {
-    io::write_all(STDERR_FILENO, s);
+fn say<E: Write>(err: &mut E, s: &[u8]) {
+    let _ = err.write_all(s);
 }
 
-fn say_number(n: u64, after: &[u8]) {
-    io::print_decimal(STDERR_FILENO, n);
-    say(after);
+fn say_number<E: Write>(err: &mut E, n: u64, after: &[u8]) {
+    let _ = write!(err, "{n}");
+    say(err, after);
 }
 
 // `2 with 1, 0 with 2, ...`: the refusals of each number.
-fn say_refused(counts: &[u64]) {
+fn say_refused<E: Write>(err: &mut E, counts: &[u64]) {
     let mut no: usize = 1;
     while no < counts.len() {
-        say(b", ");
-        say_number(counts[no], b" refused with ");
-        say_number(no as u64, b"");
+        say(err, b", ");
+        say_number(err, counts[no], b" refused with ");
+        say_number(err, no as u64, b"");
         no += 1;
     }
 }
 
 // Says what the log held: `14 lines, 10 read, 1 refused with 1, ...; 23 bytes passed over, 1 line cut short, 0 of over 82 bytes`. The
 // bytes `rest` were left unfinished at its end.
-pub fn say_counts(counts: &[u64], so: So, rest: &[u8]) {
+pub fn say_counts<E: Write>(err: &mut E, counts: &[u64], so: So, rest: &[u8]) {
     let before = so.beside;
     let beside = tally::end(tally::pass(before, rest));
-    say_number(so.rows, b" lines found, ");
+    say_number(err, so.rows, b" lines found, ");
     if 0 < counts.len() {
-        say_number(counts[0], b" read");
+        say_number(err, counts[0], b" read");
     }
-    say_refused(counts);
-    say(b"; ");
-    say_number(beside.passed, b" bytes passed over, lines cut short ");
-    say_number(beside.short, b", lines of over 82 bytes ");
-    say_number(beside.long, b"\n");
+    say_refused(err, counts);
+    say(err, b"; ");
+    say_number(err, beside.passed, b" bytes passed over, lines cut short ");
+    say_number(err, beside.short, b", lines of over 82 bytes ");
+    say_number(err, beside.long, b"\n");
 }

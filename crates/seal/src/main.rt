@@ -3,7 +3,8 @@
 #![tactic(auto)]
 
 use bodies::Why;
-use libc::{STDERR_FILENO, STDIN_FILENO, STDOUT_FILENO};
+use std::io;
+use std::io::{Read, Write};
 use turns::Came;
 
 // Puts which byte of a row may not stand in a body: its place counted from 1, its digits, and the byte itself where it can be seen.
@@ -41,27 +42,27 @@ fn put_reason(out: &mut [u8], at: usize, row: &[u8], why: Why) -> usize {
 }
 
 // Says why the row of this number has no line.
-fn say_reason(number: u64, row: &[u8], why: Why) {
+fn say_reason<E: Write>(err: &mut E, number: u64, row: &[u8], why: Why) {
     let mut said = [0u8; 160];
     let a1 = put::put_bytes(&mut said, 0, b"seal: row ");
     let a2 = text::put_number(&mut said, a1, number);
     let a3 = put::put_bytes(&mut said, a2, b": ");
     let a4 = put_reason(&mut said, a3, row, why);
     let n = put::put_bytes(&mut said, a4, b"\n");
-    turns::flush(STDERR_FILENO, &said, n);
+    let _ = turns::flush(err, &said, n);
 }
 
 // Where the rows stand: how many have come, whether the last of them is too long and still goes on, and whether every line
 // could be written.
-#[derive(Drop)]
+#[derive(Clone, Copy)]
 struct Walk {
     rows: u64,
     long: bool,
-    written: bool,
+    written: io::Result<()>,
 }
 
 // The walk behind one row more. No run has so many rows that the count stops.
-fn behind(w: Walk, long: bool, written: bool) -> Walk {
+fn behind(w: Walk, long: bool, written: io::Result<()>) -> Walk {
     let mut rows = w.rows;
     if rows < u64::MAX {
         rows += 1;
@@ -74,15 +75,15 @@ fn behind(w: Walk, long: bool, written: bool) -> Walk {
 }
 
 // Writes the line of the next row, or says why it has none.
-fn seal_row(row: &[u8], w: Walk) -> Walk {
+fn seal_row<W: Write, E: Write>(to: &mut W, err: &mut E, row: &[u8], w: Walk) -> Walk {
     let mut line = [0u8; 82];
     let done = bodies::write(row, &mut line);
     if done.no == 0 {
-        let written = w.written & turns::flush(STDOUT_FILENO, &line, done.length);
+        let written = turns::flush(to, &line, done.length).and(w.written);
         return behind(w, false, written);
     }
     let next = behind(w, false, w.written);
-    say_reason(next.rows, row, bodies::reason(row));
+    say_reason(err, next.rows, row, bodies::reason(row));
     next
 }
 
@@ -99,7 +100,7 @@ fn without_cr(row: &[u8]) -> &[u8] {
 }
 
 // The next row, which an LF ends; or the end of one that was too long.
-fn end_row(row: &[u8], w: Walk) -> Walk {
+fn end_row<W: Write, E: Write>(to: &mut W, err: &mut E, row: &[u8], w: Walk) -> Walk {
     if w.long {
         return Walk {
             rows: w.rows,
@@ -107,7 +108,7 @@ fn end_row(row: &[u8], w: Walk) -> Walk {
             written: w.written,
         };
     }
-    seal_row(without_cr(row), w)
+    seal_row(to, err, without_cr(row), w)
 }
 
 // What going over some bytes leaves: the walk, and where the bytes of a row that is not whole begin.
@@ -118,7 +119,7 @@ struct Rest {
 }
 
 // Goes over the rows of `s` that are whole.
-fn end_rows(s: &[u8], w: Walk) -> Rest {
+fn end_rows<W: Write, E: Write>(to: &mut W, err: &mut E, s: &[u8], w: Walk) -> Rest {
     let mut walk = w;
     let mut at: usize = 0;
     loop {
@@ -127,7 +128,7 @@ fn end_rows(s: &[u8], w: Walk) -> Rest {
         if s.len() <= lf {
             return Rest { walk, from: at };
         }
-        walk = end_row(&s[at..lf], walk);
+        walk = end_row(to, err, &s[at..lf], walk);
         at = lf + 1;
     }
 }
@@ -149,11 +150,11 @@ fn stop(walk: Walk) -> Turn {
 }
 
 // Keeps the bytes of a row that is not whole; 78 of them are too many for a body with CR, and none of these is kept.
-fn go_on(buf: &mut [u8], rest: Rest, n: usize) -> Turn {
+fn go_on<E: Write>(err: &mut E, buf: &mut [u8], rest: Rest, n: usize) -> Turn {
     let walk = rest.walk;
     let from = rest.from;
-    if !walk.written {
-        os::fail(b"seal: standard output cannot be written");
+    if let Err(e) = walk.written {
+        turns::fail(err, b"seal: standard output cannot be written", e);
         return stop(walk);
     }
     let kept = turns::keep(buf, from, n);
@@ -171,8 +172,8 @@ fn go_on(buf: &mut [u8], rest: Rest, n: usize) -> Turn {
             walk,
         };
     }
-    let next = behind(walk, true, true);
-    say_reason(next.rows, b"", Why::Long);
+    let next = behind(walk, true, Ok(()));
+    say_reason(err, next.rows, b"", Why::Long);
     Turn {
         more: true,
         kept: 0,
@@ -181,37 +182,44 @@ fn go_on(buf: &mut [u8], rest: Rest, n: usize) -> Turn {
 }
 
 // The last row, which the end of the input ends; none where no bytes were kept.
-fn end_all(buf: &[u8], kept: usize, w: Walk) {
+fn end_all<W: Write, E: Write>(to: &mut W, err: &mut E, buf: &[u8], kept: usize, w: Walk) {
     if kept == 0 {
         return;
     }
     if buf.len() < kept {
         return;
     }
-    let last = seal_row(&buf[0..kept], w);
-    if !last.written {
-        os::fail(b"seal: standard output cannot be written");
+    let last = seal_row(to, err, &buf[0..kept], w);
+    if let Err(e) = last.written {
+        turns::fail(err, b"seal: standard output cannot be written", e);
     }
 }
 
 // Reads once, behind the bytes that were kept, and goes over the rows that are whole.
-fn take_turn(buf: &mut [u8], kept: usize, w: Walk) -> Turn {
-    let came = turns::read_more(STDIN_FILENO, buf, kept);
+fn take_turn<R: Read, W: Write, E: Write>(
+    from: &mut R,
+    to: &mut W,
+    err: &mut E,
+    buf: &mut [u8],
+    kept: usize,
+    w: Walk,
+) -> Turn {
+    let came = turns::read_more(from, buf, kept);
     match came {
         Came::Bytes(n) => {
             if buf.len() < n {
                 return stop(w);
             }
-            let rest = end_rows(&buf[0..n], w);
-            go_on(buf, rest, n)
+            let rest = end_rows(to, err, &buf[0..n], w);
+            go_on(err, buf, rest, n)
         }
         Came::End => {
-            end_all(buf, kept, w);
+            end_all(to, err, buf, kept, w);
             stop(w)
         }
         Came::Full => stop(w),
-        Came::Failed => {
-            os::fail(b"seal: standard input cannot be read");
+        Came::Failed(e) => {
+            turns::fail(err, b"seal: standard input cannot be read", e);
             stop(w)
         }
     }
@@ -219,33 +227,31 @@ fn take_turn(buf: &mut [u8], kept: usize, w: Walk) -> Turn {
 
 // A proved loop has to end, and nothing says that the input does: so the turns are counted down
 // from a number that no run uses up.
-fn seal_all(buf: &mut [u8]) {
+fn seal_all<R: Read, W: Write, E: Write>(from: &mut R, to: &mut W, err: &mut E, buf: &mut [u8]) {
     let mut walk = Walk {
         rows: 0,
         long: false,
-        written: true,
+        written: Ok(()),
     };
-    let mut left = u64::MAX;
     let mut kept: usize = 0;
-    while 0 < left {
-        let t = take_turn(buf, kept, walk);
+    for _ in 0..u64::MAX {
+        let t = take_turn(from, to, err, buf, kept, walk);
         if !t.more {
             return;
         }
         kept = t.kept;
         walk = t.walk;
-        left -= 1;
     }
 }
 
-fn main() {
-    if 1 < os::arg_count() {
-        io::write_all(
-            STDERR_FILENO,
+fn main(rt: HostRuntime) {
+    let mut err = rt.stderr();
+    if 1 < turns::arg_count(&rt) {
+        let _ = err.write_all(
             b"seal: it takes no words: bodies on standard input, a row each, and their lines on standard output\n",
         );
         return;
     }
-    let mut buf = io::large_buffer();
-    seal_all(&mut buf);
+    let mut buf = [0u8; 65536];
+    seal_all(&mut rt.stdin(), &mut rt.stdout(), &mut err, &mut buf);
 }

@@ -4,11 +4,12 @@
 
 use exhibits_walks::lines::{Step, Walk};
 use index::Entry;
-use libc::{STDERR_FILENO, STDIN_FILENO, STDOUT_FILENO};
 use runs::Open;
+use std::io;
+use std::io::{Read, Write};
 
 // The open run: how many of its bytes are held, and the number and the offset of its first line.
-#[derive(Drop)]
+#[derive(Clone, Copy)]
 struct Kept {
     length: usize,
     number: u64,
@@ -16,11 +17,11 @@ struct Kept {
 }
 
 // What the lines so far have left: what the cut knows of the open run, that run, and whether all that ended could be written.
-#[derive(Drop)]
+#[derive(Clone, Copy)]
 struct Taken {
     open: Open,
     kept: Kept,
-    written: bool,
+    written: io::Result<()>,
 }
 
 fn nothing() -> Kept {
@@ -35,7 +36,7 @@ fn at_start() -> Taken {
     Taken {
         open: Open { lines: 0, last: 0 },
         kept: nothing(),
-        written: true,
+        written: Ok(()),
     }
 }
 
@@ -50,7 +51,7 @@ fn last_of(s: &[u8], e: usize, n: usize) -> &[u8] {
 }
 
 // Writes the rows of a run; they never pass 1024 bytes.
-fn say(held: &[u8], k: Kept) -> bool {
+fn say<W: Write>(to: &mut W, held: &[u8], k: Kept) -> io::Result<()> {
     let mut out = [0u8; 1024];
     let n = skies_rows::put_run(
         &mut out,
@@ -59,15 +60,15 @@ fn say(held: &[u8], k: Kept) -> bool {
         k.offset,
         last_of(held, k.length, k.length),
     );
-    turns::flush(STDOUT_FILENO, &out, n)
+    turns::flush(to, &out, n)
 }
 
 // Writes a run that has ended.
-fn say_if(held: &[u8], has_ended: bool, k: Kept) -> bool {
+fn say_if<W: Write>(to: &mut W, held: &[u8], has_ended: bool, k: Kept) -> io::Result<()> {
     if has_ended {
-        return say(held, k);
+        return say(to, held, k);
     }
-    true
+    Ok(())
 }
 
 // What is held behind a run: nothing where it has ended.
@@ -99,32 +100,47 @@ fn hold(held: &mut [u8], joins: bool, k: Kept, e: Entry, line: &[u8]) -> Kept {
 }
 
 // Writes the run that ends before a line, holds the line where it stands in a run, and writes the run that ends with it.
-fn take_line(held: &mut [u8], open: Open, k: Kept, e: Entry, line: &[u8]) -> Taken {
+fn take_line<W: Write>(
+    to: &mut W,
+    held: &mut [u8],
+    open: Open,
+    k: Kept,
+    e: Entry,
+    line: &[u8],
+) -> Taken {
     let stepped = runs::step(open, line);
     let next = stepped.next;
-    let first = say_if(held, stepped.before, k);
+    let first = say_if(to, held, stepped.before, k);
     let kept = hold(held, stepped.joins, left_of(k, stepped.before), e, line);
-    let second = say_if(held, stepped.ends, kept);
+    let second = say_if(to, held, stepped.ends, kept);
     Taken {
         open: next,
         kept: left_of(kept, stepped.ends),
-        written: first & second,
+        written: second.and(first),
     }
 }
 
 // The same for the line that ends at the place `end` of the buffer.
-fn take_next(held: &mut [u8], t: Taken, e: Entry, buf: &[u8], end: usize) -> Taken {
+fn take_next<W: Write>(
+    to: &mut W,
+    held: &mut [u8],
+    t: Taken,
+    e: Entry,
+    buf: &[u8],
+    end: usize,
+) -> Taken {
     let open = t.open;
     let kept = t.kept;
-    take_line(held, open, kept, e, last_of(buf, end, e.length as usize))
+    let line = last_of(buf, end, e.length as usize);
+    take_line(to, held, open, kept, e, line)
 }
 
 // The end of the input ends the open run.
-fn finish(held: &[u8], t: Taken) {
+fn finish<W: Write, E: Write>(to: &mut W, err: &mut E, held: &[u8], t: Taken) {
     let open = t.open;
     let kept = t.kept;
-    if !say_if(held, 0 < open.lines, kept) {
-        os::fail(b"skies: standard output cannot be written");
+    if let Err(e) = say_if(to, held, 0 < open.lines, kept) {
+        turns::fail(err, b"skies: standard output cannot be written", e);
     }
 }
 
@@ -145,58 +161,80 @@ fn stop(walk: Walk, taken: Taken) -> Went {
 }
 
 // Where rows could not be written, it says so and does not go on.
-fn go_on(walk: Walk, taken: Taken) -> Went {
-    if !taken.written {
-        os::fail(b"skies: standard output cannot be written");
+fn go_on<E: Write>(err: &mut E, walk: Walk, taken: Taken) -> Went {
+    if let Err(e) = taken.written {
+        turns::fail(err, b"skies: standard output cannot be written", e);
+        return stop(walk, taken);
     }
     Went {
-        more: taken.written,
+        more: true,
         walk,
         taken,
     }
 }
 
 // Takes the next line of the input.
-fn take_step(buf: &mut [u8], held: &mut [u8], walk: Walk, t: Taken) -> Went {
-    let step = exhibits_walks::lines::next(STDIN_FILENO, buf, walk);
+fn take_step<R: Read, W: Write, E: Write>(
+    from: &mut R,
+    to: &mut W,
+    err: &mut E,
+    buf: &mut [u8],
+    held: &mut [u8],
+    walk: Walk,
+    t: Taken,
+) -> Went {
+    let step = exhibits_walks::lines::next(from, buf, walk);
     match step {
-        Step::Line(on, e) => go_on(on, take_next(held, t, e, buf, on.at)),
+        Step::Line(on, e) => {
+            let taken = take_next(to, held, t, e, buf, on.at);
+            go_on(err, on, taken)
+        }
         Step::End(_) => {
-            finish(held, t);
+            finish(to, err, held, t);
             stop(walk, t)
         }
-        Step::Failed => {
-            os::fail(b"skies: standard input cannot be read");
+        Step::Failed(e) => {
+            turns::fail(err, b"skies: standard input cannot be read", e);
             stop(walk, t)
         }
     }
 }
 
 // Goes over the lines of the input. They are counted down from a number that no run uses up, so that the loop ends.
-fn show_all(buf: &mut [u8], held: &mut [u8]) {
+fn show_all<R: Read, W: Write, E: Write>(
+    from: &mut R,
+    to: &mut W,
+    err: &mut E,
+    buf: &mut [u8],
+    held: &mut [u8],
+) {
     let mut walk = exhibits_walks::lines::start();
     let mut taken = at_start();
-    let mut left = u64::MAX;
-    while 0 < left {
-        let went = take_step(buf, held, walk, taken);
+    for _ in 0..u64::MAX {
+        let went = take_step(from, to, err, buf, held, walk, taken);
         if !went.more {
             return;
         }
         walk = went.walk;
         taken = went.taken;
-        left -= 1;
     }
 }
 
-fn main() {
-    if 1 < os::arg_count() {
-        io::write_all(
-            STDERR_FILENO,
+fn main(rt: HostRuntime) {
+    let mut err = rt.stderr();
+    if 1 < turns::arg_count(&rt) {
+        let _ = err.write_all(
             b"skies: it reads a log from standard input and takes no argument: skies < log\n",
         );
         return;
     }
-    let mut buf = io::large_buffer();
+    let mut buf = [0u8; 65536];
     let mut held = [0u8; 738];
-    show_all(&mut buf, &mut held);
+    show_all(
+        &mut rt.stdin(),
+        &mut rt.stdout(),
+        &mut err,
+        &mut buf,
+        &mut held,
+    );
 }

@@ -3,8 +3,10 @@
 #![tactic(auto)]
 
 use frame::Written;
-use libc::{STDERR_FILENO, STDIN_FILENO, STDOUT_FILENO};
 use receiver::Settings;
+use std::io;
+use std::io::{Read, Write};
+use std::rt::Env;
 
 // Puts the number of a line, counted from 1.
 fn put_line(out: &mut [u8], number: u64) -> usize {
@@ -29,33 +31,40 @@ fn put_refusal(out: &mut [u8], number: u64, line: &[u8], w: Written) -> usize {
     put::put(out, a3, b'\n')
 }
 
-fn say_refusal(number: u64, line: &[u8], w: Written) {
+fn say_refusal<E: Write>(err: &mut E, number: u64, line: &[u8], w: Written) {
     let mut row = [0u8; 400];
     let n = put_refusal(&mut row, number, line, w);
-    turns::flush(STDERR_FILENO, &row, n);
+    let _ = turns::flush(err, &row, n);
 }
 
 // What a line comes to: the settings after it, and whether its reply could be written.
 #[derive(Drop)]
 struct Answered {
     settings: Settings,
-    written: bool,
+    written: io::Result<()>,
 }
 
 // Writes the reply to line `number`, or the row of its refusal.
-fn answer_line(s: Settings, arrival: u32, number: u64, line: &[u8]) -> Answered {
+fn answer_line<W: Write, E: Write>(
+    to: &mut W,
+    err: &mut E,
+    s: Settings,
+    arrival: u32,
+    number: u64,
+    line: &[u8],
+) -> Answered {
     let mut out = [0u8; 82];
     let done = receiver::step(s, arrival, line, &mut out);
     let settings = done.settings;
     let w = done.written;
     if w.no == 0 {
-        let written = turns::flush(STDOUT_FILENO, &out, w.length);
+        let written = turns::flush(to, &out, w.length);
         return Answered { settings, written };
     }
-    say_refusal(number, line, w);
+    say_refusal(err, number, line, w);
     Answered {
         settings,
-        written: true,
+        written: Ok(()),
     }
 }
 
@@ -66,7 +75,7 @@ struct Heard {
     settings: Settings,
     lines: u64,
     from: usize,
-    written: bool,
+    written: io::Result<()>,
 }
 
 // The number after `n`; after the last of 64 bits there is none but itself.
@@ -75,11 +84,18 @@ fn next(n: u64) -> u64 {
 }
 
 // Answers each line of `s`, behind `before` lines.
-fn answer_lines(s: &[u8], first: Settings, before: u64, arrival: u32) -> Heard {
+fn answer_lines<W: Write, E: Write>(
+    to: &mut W,
+    err: &mut E,
+    s: &[u8],
+    first: Settings,
+    before: u64,
+    arrival: u32,
+) -> Heard {
     let mut settings = first;
     let mut lines = before;
     let mut at: usize = 0;
-    let mut written = true;
+    let mut written = Ok(());
     loop {
         let found = finder::next_line(s, at);
         let start = found.start;
@@ -93,9 +109,9 @@ fn answer_lines(s: &[u8], first: Settings, before: u64, arrival: u32) -> Heard {
         }
         let end = found.end;
         lines = next(lines);
-        let answered = answer_line(settings, arrival, lines, &s[start..end]);
+        let answered = answer_line(to, err, settings, arrival, lines, &s[start..end]);
         settings = answered.settings;
-        written = written & answered.written;
+        written = answered.written.and(written);
         at = end;
     }
 }
@@ -121,23 +137,24 @@ fn stop(settings: Settings) -> Turn {
 
 // Reads once, behind the bytes that were kept, and answers how many bytes stand in `buf` then; as many as were kept where
 // the input has ended or cannot be read.
-fn read_more(buf: &mut [u8], kept: usize) -> usize {
+fn read_more<R: Read, E: Write>(from: &mut R, err: &mut E, buf: &mut [u8], kept: usize) -> usize {
     if buf.len() <= kept {
         return kept;
     }
-    let got = libc::read(STDIN_FILENO, &mut buf[kept..]);
-    if got < 0 {
-        os::fail(b"standin: standard input cannot be read");
-        return kept;
+    match from.read(&mut buf[kept..]) {
+        Err(e) => {
+            turns::fail(err, b"standin: standard input cannot be read", e);
+            kept
+        }
+        Ok(n) => kept + n,
     }
-    kept + io::count(got, &buf[kept..])
 }
 
 // Keeps the bytes of an unfinished line for the next turn.
-fn go_on(buf: &mut [u8], heard: Heard, n: usize) -> Turn {
+fn go_on<E: Write>(err: &mut E, buf: &mut [u8], heard: Heard, n: usize) -> Turn {
     let settings = heard.settings;
-    if !heard.written {
-        os::fail(b"standin: standard output cannot be written");
+    if let Err(e) = heard.written {
+        turns::fail(err, b"standin: standard output cannot be written", e);
         return stop(settings);
     }
     let from = heard.from;
@@ -150,49 +167,64 @@ fn go_on(buf: &mut [u8], heard: Heard, n: usize) -> Turn {
 }
 
 // Reads once and answers the lines that are whole.
-fn take_turn(buf: &mut [u8], kept: usize, s: Settings, lines: u64, arrival: u32) -> Turn {
-    let n = read_more(buf, kept);
+fn take_turn<R: Read, W: Write, E: Write>(
+    from: &mut R,
+    to: &mut W,
+    err: &mut E,
+    buf: &mut [u8],
+    kept: usize,
+    s: Settings,
+    lines: u64,
+    arrival: u32,
+) -> Turn {
+    let n = read_more(from, err, buf, kept);
     if n <= kept {
         return stop(s);
     }
     if buf.len() < n {
         return stop(s);
     }
-    let heard = answer_lines(&buf[0..n], s, lines, arrival);
-    go_on(buf, heard, n)
+    let heard = answer_lines(to, err, &buf[0..n], s, lines, arrival);
+    go_on(err, buf, heard, n)
 }
 
 // A proved loop has to end, and nothing says that the input does: so the turns are counted down
 // from a number that no run uses up.
-fn answer_all(buf: &mut [u8], arrival: u32) {
+fn answer_all<R: Read, W: Write, E: Write>(
+    from: &mut R,
+    to: &mut W,
+    err: &mut E,
+    buf: &mut [u8],
+    arrival: u32,
+) {
     let mut settings = receiver::state::at_start();
-    let mut left = u64::MAX;
     let mut kept: usize = 0;
     let mut lines: u64 = 0;
-    while 0 < left {
-        let t = take_turn(buf, kept, settings, lines, arrival);
+    for _ in 0..u64::MAX {
+        let t = take_turn(from, to, err, buf, kept, settings, lines, arrival);
         if !t.more {
             return;
         }
         kept = t.kept;
         settings = t.settings;
         lines = t.lines;
-        left -= 1;
     }
 }
 
 // The port that the arguments name, 0 where there are none; 2 where they are not one port.
-fn port_asked() -> u32 {
-    let count = os::arg_count();
+fn port_asked<V: Env>(env: &V) -> u32 {
+    let count = turns::arg_count(env);
     if count < 2 {
         return 0;
     }
-    let mut word = [0u8; 4];
-    let n = os::arg(1, &mut word);
-    if (2 < count) | (os::errno() != 0) {
+    if 2 < count {
         return 2;
     }
-    port_named(&word[0..n])
+    let mut word = [0u8; 4];
+    match env.arg(1, &mut word) {
+        Ok(n) => port_named(&word[0..n]),
+        Err(_) => 2,
+    }
 }
 
 fn port_named(word: &[u8]) -> u32 {
@@ -205,12 +237,19 @@ fn port_named(word: &[u8]) -> u32 {
     2
 }
 
-fn main() {
-    let arrival = port_asked();
+fn main(rt: HostRuntime) {
+    let mut err = rt.stderr();
+    let arrival = port_asked(&rt);
     if 1 < arrival {
-        io::write_all(STDERR_FILENO, b"standin: the port is 0 or 1\n");
+        let _ = err.write_all(b"standin: the port is 0 or 1\n");
         return;
     }
-    let mut buf = io::large_buffer();
-    answer_all(&mut buf, arrival);
+    let mut buf = [0u8; 65536];
+    answer_all(
+        &mut rt.stdin(),
+        &mut rt.stdout(),
+        &mut err,
+        &mut buf,
+        arrival,
+    );
 }

@@ -1,6 +1,5 @@
--- Bytes moved down one by one: after i of them the buffer holds i bytes of the part, and behind them the bytes that stood there, so that
--- the
--- next one, which lies no earlier, is still what it was.
+-- Bytes moved down one by one: after i of them the buffer holds i bytes of the part, and behind them the bytes that stood there, so
+-- that the next one, which lies no earlier, is still what it was.
 use Prim.Native.Nat.{ℕ, zero, suc, ◌+◌, ◌-◌, ◌≤◌, ◌<◌}
 use mathlib.Core.Path.{◌≡◌, refl, sym, ap, ◌∙◌}
 use mathlib.Core.List.{List, [], ◌∷◌, ◌++◌}

@@ -1,5 +1,6 @@
 -- What the programs that read in turns do with their buffers.
-use Rattle.std.specs.Prelude.{ℕ, ◌-◌, ◌<◌, ◌≤◌, ◌≡◌, List, ◌++◌, Bool, false, length, take, drop}
+use Rattle.std.specs.Prelude.{ℕ, ◌-◌, ◌<◌, ◌≤◌, ◌≡◌, List, ◌++◌, Bool, false, Option, length, take, drop}
+use Rattle.std.specs.Io.KnownBytes as Known
 use Rattle.turns.specs.declared.Came.{Came}
 use Rattle.turns.specs.declared.Came.TheVariants.{Bytes, End, Full, Failed}
 
@@ -12,7 +13,7 @@ pub record Keeps (a e : ℕ) (buf : List ℕ) (count : ℕ) (left : List ℕ) : 
   pub many : count ≡ length (part a e buf)
   pub bytes : left ≡ part a e buf ++ drop count buf
 
--- What is not in the buffer is not written. Of a write within it nothing is known but that it was tried.
+-- What is not in the buffer is not written.
 pub record Flushes (out : List ℕ) (place : ℕ) (answer : Bool) : Type 0 where
   pub beyond : length out < place → answer ≡ false
 
@@ -22,4 +23,12 @@ abbrev pub Comes : ℕ → ℕ → Came → Type 0
 Comes kept room (Bytes n) = (kept < n) × (n ≤ room)
 Comes kept room End = kept < room
 Comes kept room Full = room ≤ kept
-Comes kept room Failed = kept < room
+Comes kept room (Failed e) = kept < room
+
+-- What a read takes of a reader whose bytes are known: the bytes that came are its next, and stand behind those that were kept; nothing
+-- is left of it at its end; and else nothing is taken of it.
+abbrev pub Takes : ℕ → Option (List ℕ) → Option (List ℕ) → List ℕ → Came → Type 0
+Takes kept before behind buf (Bytes n) = Known.Consumes before behind (drop kept (take n buf))
+Takes kept before behind buf End = Known.IsAtEnd behind
+Takes kept before behind buf Full = Known.Keeps before behind
+Takes kept before behind buf (Failed e) = Known.Keeps before behind

@@ -1,18 +1,26 @@
-// What the programs that read in turns share: writing a part of a buffer, and keeping a part for the next turn.
+// What the programs that read in turns share: writing a part of a buffer, and keeping a part for the next turn; and what they
+// tell of a call of the system that failed.
 #![tactic(auto)]
 
-ghost use Rattle.std.specs.Prelude.{length};
-ghost use Rattle.turns.specs.Turns.{Keeps, Flushes, Comes};
+ghost use Rattle.std.specs.Prelude.{◌≡◌, OnOk, is_ok, length, take};
+ghost use Rattle.std.specs.Io.KnownBytes.{Appends};
+ghost use Rattle.turns.specs.Turns.{Keeps, Flushes, Comes, Takes};
 
-// Writes what `out` holds up to `place`, and answers whether all of it could be written; false where `place`
-// lies beyond `out`.
-pub fn flush(fd: i32, out: &[u8], place: usize) -> bool
-    ensures { Flushes out.now place result }
+use std::env::FillError;
+use std::io;
+use std::io::{Read, Write};
+use std::rt::Env;
+
+// Writes what `out` holds up to `place`, and answers whether all of it could be written, or else why not; a failure where
+// `place` lies beyond `out`.
+pub fn flush<W: Write>(to: &mut W, out: &[u8], place: usize) -> io::Result<()>
+    ensures beyond { Flushes out.now place (is_ok result) }
+    ensures bytes { OnOk result (Appends (W.contents to.old) (W.contents to.new) (take place out.now)) }
 {
     if place <= out.len() {
-        return io::write_all(fd, &out[0..place]);
+        return to.write_all(&out[0..place]);
     }
-    false
+    Err(io::Error::from(io::ErrorKind::InvalidInput))
 }
 
 // Moves the bytes of `buf` from `a` up to `e` to its start, and answers how many they are.
@@ -33,29 +41,65 @@ pub fn keep(buf: &mut [u8], a: usize, e: usize) -> usize
 }
 
 // What a read came to: how many bytes the buffer holds now; the end of the input; a buffer that was full; or a failure,
-// of which errno tells.
+// and why.
 #[derive(Drop)]
 pub enum Came {
     Bytes(usize),
     End,
     Full,
-    Failed,
+    Failed(io::Error),
 }
 
 // Reads once, behind the bytes of `buf` that were kept.
-pub fn read_more(fd: i32, buf: &mut [u8], kept: usize) -> Came
-    ensures { Comes kept (length buf.old) result }
+pub fn read_more<R: Read>(from: &mut R, buf: &mut [u8], kept: usize) -> Came
+    ensures came { Comes kept (length buf.old) result }
+    ensures kept { take kept buf.new ≡ take kept buf.old }
+    ensures takes { Takes kept (R.remaining from.old) (R.remaining from.new) buf.new result }
 {
     if buf.len() <= kept {
         return Came::Full;
     }
-    let got = libc::read(fd, &mut buf[kept..]);
-    if got < 0 {
-        return Came::Failed;
+    match from.read(&mut buf[kept..]) {
+        Err(e) => Came::Failed(e),
+        Ok(0) => Came::End,
+        Ok(n) => Came::Bytes(kept + n),
     }
-    let n = io::count(got, &buf[kept..]);
-    if n == 0 {
-        return Came::End;
+}
+
+// Puts the text of an error into `text` and answers its length. The number that std puts behind the system's own text is left out.
+fn put_error(text: &mut [u8], e: io::Error) -> usize {
+    let mut put = io::Cursor::new(&mut *text);
+    let _ = write!(put, "{e}");
+    let n = put.position() as usize;
+    if text.len() < n {
+        return 0;
     }
-    Came::Bytes(kept + n)
+    if e.raw_os_error().is_none() {
+        return n;
+    }
+    match text[..n].iter().rposition(|b| *b == b'(') {
+        Some(at) => at.saturating_sub(1),
+        None => n,
+    }
+}
+
+// Writes a row: what failed, as the caller names it, a colon and the error's text.
+pub fn fail<W: Write>(to: &mut W, what: &[u8], e: io::Error) {
+    let mut text = [0u8; 128];
+    let n = put_error(&mut text, e);
+    let _ = to.write_all(what);
+    let _ = to.write_all(b": ");
+    let _ = flush(to, &text, n);
+    let _ = to.write_all(b"\n");
+}
+
+// How many words a program was started with, its own name among them.
+pub fn arg_count<E: Env>(env: &E) -> usize {
+    let mut byte = [0u8; 1];
+    for i in 0..usize::MAX {
+        if let Err(FillError::NotPresent) = env.arg(i, &mut byte) {
+            return i;
+        }
+    }
+    usize::MAX
 }
