@@ -103,9 +103,9 @@ address-of body r s = equation
 pub places : (l p : List ℕ) (r s : ℕ) (left other : List ℕ) → Placed l p r left → Placed l p s other → (r ≡ s) × (left ≡ other)
 places l p r s left other d e = (equation d.fields e.fields, equation d.ends e.ends)
 
-pub field_in : (l : Bor (List ℕ)) (p : List ℕ) (k : ℕ) (r s : Bor (List ℕ))
+pub field_in_lem : (l : Bor (List ℕ)) (p : List ℕ) (k : ℕ) (r s : Bor (List ℕ))
     → PartAt l (place_in p k l.now) (field_in p k l.now) r → PartAt l (place_in p k l.now) (field_in p k l.now) s → SamePart r s
-field_in l p k r s = part l _ _ r s
+field_in_lem l p k r s = part l _ _ r s
 
 pub address-refusal : (l : List ℕ) (r s : ℕ) → r ≡ address_refusal l → s ≡ address_refusal l → r ≡ s
 address-refusal l r s = equation
