@@ -1,5 +1,5 @@
 -- Field by field, the ends that were found give the fields: for a field that is there by its place, for any other since no end was stored.
-use Prim.Native.Nat.{ℕ, zero, suc, ◌+◌, ◌-◌, ◌≤◌, ◌<◌}
+use Prim.Native.Nat.{ℕ, zero, suc, ◌+◌, ◌≤◌}
 use mathlib.Core.Path.{◌≡◌, refl, sym, ◌∙◌, ap, fun_ext}
 use mathlib.Core.List.{List, [], ◌∷◌}
 use mathlib.Core.Bool.{Bool, true, false}
@@ -11,7 +11,7 @@ use borrow.Author.Tests.{ltb-true, ltb-false}
 use Rattle.fields.specs.Fields.{fields_of}
 use Rattle.line.specs.Ends.{ends_from}
 use Rattle.fields.specs.Places.{field_in, fields_by, the_fields}
-use Rattle.fields.proofs.Splitting.{First, first_field, ends-count}
+use Rattle.fields.proofs.Splitting.{first_field, ends-count}
 use Rattle.fields.proofs.Placing.{placed-field, no_place, not-past}
 
 -- past what was stored

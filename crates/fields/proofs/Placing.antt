@@ -1,12 +1,12 @@
 -- The ends of the fields, stored one after another: field k by the stored ends is the kth of the fields.
 use Prim.Native.Nat.{ℕ, zero, suc, ◌+◌, ◌-◌, ◌≤◌, ◌<◌}
-use mathlib.Core.Path.{◌≡◌, refl, ◌∙◌, ap}
+use mathlib.Core.Path.{◌≡◌, refl, ◌∙◌}
 use mathlib.Core.List.{List, [], ◌∷◌}
 use mathlib.Core.Bool.{true, false}
 use native.Mathlib.Omega.{arith}
-use native.Mathlib.Numerals.{add-one, sub-one}
-use lib.ListN.{length, get_or, take, drop, set, length-set, drop_of_length-le}
-use lib.Seq.{drop-cons, sets, length-sets, get_or-set_same, get_or-set_other}
+use native.Mathlib.Numerals.{sub-one}
+use lib.ListN.{length, get_or, take, drop, set, length-set}
+use lib.Seq.{sets, length-sets, get_or-set_same, get_or-set_other}
 use borrow.Author.Tests.{eq-eqb, ne_eqb, lt-ltb, le-ltb, le-leb, lt-leb}
 use Rattle.fields.specs.Fields.{fields_of, start_of}
 use Rattle.line.specs.Ends.{ends_from}

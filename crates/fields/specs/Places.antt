@@ -1,5 +1,5 @@
 -- The places of the fields, found in one pass: where each field ends.
-use Rattle.std.specs.Prelude.{ℕ, ◌+◌, ◌-◌, ◌≡◌, List, [], ◌∷◌, Bool, cond, ◌&&◌, length, get_or, take, drop, ltb, leb, eqb}
+use Rattle.std.specs.Prelude.{ℕ, ◌+◌, ◌-◌, ◌≡◌, List, [], Bool, cond, ◌&&◌, length, get_or, take, drop, ltb, leb, eqb}
 use Rattle.std.proofs.lemmas.List.Edits.{sets}
 use Rattle.line.specs.Ends.{ends_from}
 use Rattle.fields.specs.Fields.{fields_of}

@@ -1,8 +1,8 @@
 -- An entry's bytes are read as that entry, and bytes that read as an entry are its bytes: by the same of the three numbers.
-use Prim.Native.Nat.{◌+◌, ◌-◌, ◌<◌, ◌≤◌, suc, ℕ}
-use mathlib.Core.Path.{◌∙◌, ◌≡◌, ap, refl, sym}
+use Prim.Native.Nat.{◌-◌, ◌<◌, ◌≤◌, ℕ}
+use mathlib.Core.Path.{◌∙◌, ◌≡◌, ap, refl}
 use mathlib.Core.Bool.{Bool, false, true}
-use mathlib.Core.List.{[], ◌++◌, ◌∷◌, append_assoc, List}
+use mathlib.Core.List.{◌++◌, append_assoc, List}
 use native.Mathlib.Omega.{arith}
 use native.Mathlib.Nat.{add-sub_cancel_left}
 use lib.ListN.{length, length-append}

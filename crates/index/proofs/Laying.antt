@@ -12,7 +12,6 @@ use Rattle.put.specs.Wrote.{Held, held, wrote, Puts}
 use Rattle.put.proofs.Chain.{wrote-append, put_whole}
 use Rattle.index.specs.declared.Entry.{Entry}
 use Rattle.index.specs.declared.reading.Laid.{Laid}
-use Rattle.index.specs.declared.Next.TheVariants as N
 use Rattle.index.specs.Index.{end_of, fits, entry_behind, Listing, listed, no_index, onto, read_from, read_index}
 use Rattle.index.specs.Answers.{numbers_of, entries_in, laid_for}
 use Rattle.index.specs.Places.{Near, tip, laid_at, unlaid, Lays, LaysOn}

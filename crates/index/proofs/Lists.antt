@@ -1,14 +1,14 @@
 -- Lists of entries and their bytes: entries in order are read back from their bytes, and bytes that read are the bytes of their entries,
 -- which are in order. By going along the entries.
-use Prim.Native.Nat.{ℕ, zero, suc, ◌+◌, ◌<◌}
+use Prim.Native.Nat.{ℕ}
 use mathlib.Core.Path.{◌≡◌, refl, sym, ap, ◌∙◌}
-use mathlib.Core.Bool.{Bool, true, false, ◌&&◌}
+use mathlib.Core.Bool.{true}
 use mathlib.Core.List.{List, [], ◌∷◌, ◌++◌, append_assoc, append-nil}
 use native.Mathlib.Omega.{arith}
-use Rattle.digits.proofs.Bools.{and_left, and_right, and_both, and-true, and_assoc}
+use Rattle.digits.proofs.Bools.{and_left, and_right, and_both}
 use Rattle.index.specs.declared.Entry.{Entry}
 use Rattle.index.specs.Index.{origin, fits, in_order, entry_bytes, bytes_from, index_bytes, Head, entry, short, bad, entry_of}
-use Rattle.index.specs.Index.{Listing, listed, no_index, onto, then_head, turns_from, read_from, read_index}
+use Rattle.index.specs.Index.{Listing, listed, no_index, onto, read_from, read_index}
 use Rattle.index.specs.Answers.{last_of}
 use Rattle.index.proofs.Back.{entry-back, entry-only}
 use Rattle.index.proofs.ReadLaws.{read_none, read_next, read_short, read-bad}

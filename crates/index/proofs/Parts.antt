@@ -1,6 +1,6 @@
 -- The three numbers of an entry at a place, one after the other: what is taken of each decides what the rest comes to.
-use Prim.Native.Nat.{◌+◌, ◌-◌, ◌<◌, ◌≤◌, ℕ}
-use mathlib.Core.Path.{◌∙◌, ◌≡◌, ap, refl, sym}
+use Prim.Native.Nat.{◌+◌, ◌-◌, ℕ}
+use mathlib.Core.Path.{◌∙◌, ◌≡◌, ap, refl}
 use mathlib.Core.Bool.{Bool, false, true}
 use mathlib.Core.List.{List}
 use native.Mathlib.Omega.{arith}
@@ -9,9 +9,8 @@ use Rattle.index_sevens.specs.Sevens.{take_sevens}
 use Rattle.index_sevens.specs.Sevens as S
 use Rattle.index_sevens.proofs.Taking.{taken-small, TakenUp}
 use Rattle.index.specs.declared.Entry.{Entry}
-use Rattle.index.specs.declared.Next.{Next}
 use Rattle.index.specs.declared.Next.TheVariants as N
-use Rattle.index.specs.Index.{bad, entry, entry_behind, entry_of, fits, Head, length_of, short, skip_of}
+use Rattle.index.specs.Index.{bad, entry, entry_behind, entry_of, fits, length_of, skip_of}
 use Rattle.digits.specs.Pick.{pick}
 use Rattle.index.specs.Places.{Near, next_at}
 

@@ -1,23 +1,21 @@
 -- The index beside a log, from what its functions answer: what is written reads back, what is found is the entry with that number, what is
 -- added stands behind what was there, and numbers ascend. Each from the laws of lists of entries, by going along them.
-use Prim.Native.Nat.{◌%◌, ◌+◌, ◌-◌, ◌<◌, ◌≤◌, suc, zero, ℕ}
+use Prim.Native.Nat.{◌%◌, ◌+◌, ◌<◌, ◌≤◌, ℕ}
 use mathlib.Core.Path.{◌∙◌, ◌≡◌, ap, refl, sym}
-use mathlib.Core.Bool.{◌&&◌, Bool, cond, false, true}
+use mathlib.Core.Bool.{Bool, false, true}
 use mathlib.Core.List.{[], ◌++◌, ◌∷◌, append_assoc, List}
 use native.Mathlib.Omega.{arith}
 use lib.Dec.{eqb, ltb}
-use lib.ListN.{drop, length, length-append, length-take, take}
+use lib.ListN.{drop, length, length-append, take}
 use lib.Seq.{length-take-le, take_at}
 use borrow.Author.Tests.{eq-eqb, eqb-true, le-ltb, ltb-false, ne_eqb}
 use Rattle.digits.proofs.Bools.{and_left, and_right}
-use Rattle.frame.specs.declared.Written.{Written}
 use Rattle.frame.specs.Written.{refused, wrote}
 use Rattle.index.specs.declared.Entry.{Entry}
 use Rattle.index.specs.declared.reading.Found.{Found}
-use Rattle.index.specs.declared.reading.Listed.{Listed}
-use Rattle.index.specs.Index.{bytes_from, entry_bytes, fits, index_bytes, in_order, listed, Listing, no_index, origin, read_index}
+use Rattle.index.specs.Index.{entry_bytes, fits, index_bytes, in_order, listed, Listing, no_index, origin, read_index}
 use Rattle.digits.specs.Pick.{pick}
-use Rattle.index.specs.Answers.{added_index, added_to, are_entries, entries_in, entries_of, find_in, finding, found_in, grown_by, laid_for}
+use Rattle.index.specs.Answers.{added_index, added_to, are_entries, entries_of, find_in, finding, found_in, laid_for}
 use Rattle.index.specs.Answers.{last_of, left_added, left_index, listed_for, listing, numbers_of, written_index}
 use Rattle.index.proofs.Ranges.{fits-is}
 use Rattle.index.proofs.Lists.{bytes-more, from_back, from-only, order-more, same_entries}

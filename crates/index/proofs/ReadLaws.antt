@@ -1,13 +1,13 @@
 -- Reading by laws: no bytes are no entries, an entry goes before what the bytes behind it read as, and bytes that no entry begins with are
 -- no index. The number of turns does not matter where it is more than the bytes, since every entry takes some.
-use Prim.Native.Nat.{◌<◌, ◌≤◌, suc, zero, ℕ}
-use mathlib.Core.Path.{◌∙◌, ◌≡◌, ap, refl, sym}
+use Prim.Native.Nat.{◌<◌, suc, zero, ℕ}
+use mathlib.Core.Path.{◌≡◌, ap, refl}
 use mathlib.Core.List.{[], ◌∷◌, List}
 use native.Mathlib.Omega.{arith}
 use lib.ListN.{length}
 use Rattle.index_sevens.specs.Sevens.{take_groups, take_sevens}
 use Rattle.index.specs.declared.Entry.{Entry}
-use Rattle.index.specs.Index.{bad, entry, entry_of, Head, listed, Listing, no_index, onto, read_from, short, then_head, turns_from}
+use Rattle.index.specs.Index.{bad, entry, entry_of, Head, listed, no_index, onto, read_from, short, then_head, turns_from}
 use Rattle.index.proofs.Back.{entry-shorter}
 
 enough : (n m : ℕ) (before : Entry) (s : List ℕ) → length s < n → length s < m → turns_from n before s ≡ turns_from m before s

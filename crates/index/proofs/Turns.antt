@@ -1,6 +1,6 @@
 -- Reading in turns: an entry, and bytes that no entry begins with, say the same whatever comes behind them; so the whole entries of some
 -- bytes, and then the bytes kept with those that come, are what all the bytes read as.
-use Prim.Native.Nat.{◌<◌, suc, zero, ℕ}
+use Prim.Native.Nat.{ℕ}
 use mathlib.Core.Path.{◌∙◌, ◌≡◌, ap, refl, sym}
 use mathlib.Core.Bool.{Bool, false, true}
 use mathlib.Core.List.{[], ◌++◌, ◌∷◌, List}
@@ -9,7 +9,7 @@ use Rattle.index_sevens.specs.Sevens.{take_sevens, Took}
 use Rattle.index_sevens.specs.Sevens as S
 use Rattle.index_sevens.proofs.Turns as T
 use Rattle.index.specs.declared.Entry.{Entry}
-use Rattle.index.specs.Index.{bad, entry, entry_behind, entry_of, fits, Head, length_of, listed, Listing, no_index, onto, read_from, short}
+use Rattle.index.specs.Index.{bad, entry, entry_behind, entry_of, fits, Head, length_of, Listing, no_index, onto, read_from, short}
 use Rattle.index.specs.Index.{skip_of, then_took}
 use Rattle.digits.specs.Pick.{pick}
 use Rattle.index.proofs.ReadLaws.{read-bad, read_next}

@@ -1,6 +1,6 @@
 -- What writing, reading, adding and finding come to. Refusals, with line and field 0, in this order: 11 bytes that are no index, 12 no
 -- such exhibit, 5 entries out of range or order, 8 a lent buffer that is too short. A refusal leaves what was lent.
-use Rattle.std.specs.Prelude.{◌%◌, ◌+◌, suc, ℕ, ◌&&◌, Bool, [], ◌++◌, ◌∷◌, List, eqb, ltb, drop, get_or, length, take}
+use Rattle.std.specs.Prelude.{◌%◌, ◌+◌, ℕ, ◌&&◌, Bool, [], ◌++◌, ◌∷◌, List, eqb, ltb, drop, get_or, length, take}
 use Rattle.frame.specs.declared.Written.{Written}
 use Rattle.frame.specs.Written.{refused, wrote}
 use Rattle.index.specs.declared.Entry.{Entry}

@@ -1,5 +1,5 @@
 -- Laws of flaws: one for each way out of the code, and that a line has no flaw exactly where it has the form of the line rule.
-use Prim.Native.Nat.{ℕ, ◌+◌, ◌-◌, ◌≤◌, ◌<◌}
+use Prim.Native.Nat.{ℕ, ◌+◌, ◌≤◌, ◌<◌}
 use mathlib.Core.Path.{◌∙◌, ◌≡◌, refl, sym}
 use mathlib.Core.List.{List, [], ◌∷◌}
 use mathlib.Core.Bool.{Bool, true, false, cond, ◌&&◌}
@@ -8,12 +8,11 @@ use native.Mathlib.Numerals.{add-one}
 use lib.Dec.{eqb, leb}
 use lib.ListN.{length, get_or, drop, drop_of_length-le}
 use lib.Seq.{drop-cons}
-use borrow.Author.Tests.{eq-eqb, ne_eqb, le-leb, lt-leb}
-use Rattle.digits.proofs.Bools.{and_assoc, and-true}
+use borrow.Author.Tests.{eq-eqb, ne_eqb, le-leb}
+use Rattle.digits.proofs.Bools.{and-true}
 use Rattle.digits.specs.Hex.{hex_digit}
 use Rattle.digits.specs.Pick.{pick}
 use Rattle.line.specs.Line.{body_byte, body_bytes, body_of, edge_form, end_form, end_of, line_form}
-use Rattle.line_flaw.specs.declared.Flaw.{Flaw}
 use Rattle.line_flaw.specs.Flaw.{end_parts, first_failing, flaw, flaw_of, forbidden, Part}
 
 -- the bytes of a body, one after another

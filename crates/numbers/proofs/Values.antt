@@ -1,5 +1,4 @@
 -- The layouts of the values of records are lawful, and what this says of a record in a list of numbers.
-use Prim.Native.Nat.{◌+◌}
 use mathlib.Core.Path.{◌≡◌, refl, ◌∙◌}
 use mathlib.Core.Bool.{true}
 use mathlib.Core.List.{List, [], ◌++◌}

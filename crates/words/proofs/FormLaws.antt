@@ -1,7 +1,7 @@
 -- Numbers passed over, counted from a place on; the bound of a value's marks; and the last digit of a mask behind those before it.
 use Prim.Native.Nat.{◌%◌, ◌+◌, ◌-◌, ◌/◌, ◌<◌, ◌≤◌, suc, zero, ℕ}
 use mathlib.Core.Path.{◌∙◌, ◌≡◌, ap, refl, sym}
-use mathlib.Core.List.{[], ◌++◌, ◌∷◌, List}
+use mathlib.Core.List.{[], ◌∷◌, List}
 use mathlib.Core.Bool.{Bool, cond, false, true}
 use native.Mathlib.Omega.{arith}
 use lib.Dec.{ltb}

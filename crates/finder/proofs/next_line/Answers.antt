@@ -1,9 +1,7 @@
-use Prim.Native.Nat.{◌-◌}
 use mathlib.Core.Path.{◌∙◌, sym}
 use native.Mathlib.Omega.{arith}
 use lib.ListN.{get_or}
 use Rattle.finder.specs.Slice.{found_at}
-use Rattle.finder.specs.Until.{held_in}
 use Rattle.finder.proofs.Laws.{found-end}
 use Rattle.finder.proofs.Until.{held_low, ended-le, reach-le, more, within, plain, plain-within, line_at}
 use Rattle.finder.proofs.next_line.Goals as goal

@@ -1,7 +1,7 @@
 -- Three bytes: stored at once where there is room for all, else one by one.
 use Prim.Native.Nat.{◌+◌}
 use native.Mathlib.Omega.{arith}
-use lib.ListN.{length, set, length-set}
+use lib.ListN.{set, length-set}
 use Rattle.put.proofs.Chain.{◌⨾◌}
 use Rattle.index.proofs.Threes.{three-room}
 use Rattle.index.proofs.put_three.Goals as goal

@@ -1,6 +1,5 @@
 -- The length is taken, and with it the entry is made; or the bytes end, or are none.
 use mathlib.Core.Path.{◌∙◌, sym}
-use lib.ListN.{length}
 use Rattle.index_sevens.proofs.Taking.{taken, taken-bad, taken-short}
 use Rattle.index.proofs.Parts.{length-bad, length-short, length-value}
 use Rattle.index.proofs.with_length.Goals as goal

@@ -1,4 +1,3 @@
-use Prim.Native.Nat.{◌-◌}
 use native.Mathlib.Omega.{arith}
 use Rattle.lines.proofs.CutLaws.{width-lf, width-other, width-end}
 use Rattle.lines.proofs.line_end.Goals as goal

@@ -1,4 +1,3 @@
-use Prim.Native.Nat.{◌-◌}
 use native.Mathlib.Omega.{arith}
 use Rattle.form_mask.proofs.MaskLaws.{hex-room, ones-all, ones_step}
 use Rattle.form_mask.proofs.read.ones.Goals as goal

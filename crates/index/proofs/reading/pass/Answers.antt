@@ -1,6 +1,4 @@
-use Prim.Native.Nat.{◌-◌}
 use native.Mathlib.Omega.{arith}
-use lib.ListN.{length}
 use Rattle.index.specs.Index.{end_of}
 use Rattle.index.proofs.Passing.{placed, ending, passes-start, passes-from, pass-next}
 use Rattle.index.proofs.reading.pass.Goals as goal

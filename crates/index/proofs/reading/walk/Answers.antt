@@ -1,4 +1,4 @@
-use Prim.Native.Nat.{◌-◌, ◌+◌}
+use Prim.Native.Nat.{◌+◌}
 use native.Mathlib.Omega.{arith}
 use Rattle.index.proofs.Places.{Entered, entered, entered-short, entered-bad}
 use Rattle.index.proofs.Passing.{placed}

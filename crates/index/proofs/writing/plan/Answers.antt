@@ -1,4 +1,3 @@
-use Prim.Native.Nat.{◌-◌}
 use native.Mathlib.Omega.{arith}
 use Rattle.index.specs.Places.{Small}
 use Rattle.index.proofs.Planning.{planning-as, planning-small}
