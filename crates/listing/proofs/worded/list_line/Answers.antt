@@ -5,7 +5,6 @@ use lib.ListN.{replicate}
 use Prim.Native.Nat.{ℕ}
 use Rattle.put.proofs.Chain.{as-text}
 use Rattle.sentence.specs.Lines.{read_line}
-use Rattle.sentence.specs.ToHost.{told_for}
 use Rattle.numbers.specs.declared.Told.{Told}
 use Rattle.tally.specs.Tally.{plus}
 use Rattle.rows_words.specs.Worded.{told_worded}
