@@ -176,7 +176,7 @@ fn put_count(out: &mut [u8], at: usize, body: &[u8]) -> usize
     let a0 = put_said(out, at, 4);
     let a1 = text::put_number(out, a0, (count - 1) as u64);
     let a2 = put::put_bytes(out, a1, b" here, ");
-    let a3 = words::fields::put_count(out, a2, kind_no(body));
+    let a3 = words::field_words::put_count(out, a2, kind_no(body));
     put::put_bytes(out, a3, b" required")
 }
 
@@ -198,7 +198,7 @@ fn put_wrong(out: &mut [u8], at: usize, line: &[u8], field: usize) -> usize
     let a1 = put::put_bytes(out, a0, b" in field ");
     let a2 = text::put_number(out, a1, field as u64);
     let a3 = put::put_bytes(out, a2, b"; required: ");
-    words::fields::put_field(out, a3, kind_no(body_of(line)), field)
+    words::field_words::put_field(out, a3, kind_no(body_of(line)), field)
 }
 
 // Why `line` was refused with number `no` at `field`: of 1 the part of the line rule that fails and its byte, of 2 the digits

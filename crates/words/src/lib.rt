@@ -3,8 +3,8 @@
 #![tactic(auto)]
 
 mod code;
-pub mod fields;
-mod form;
+pub mod field_words;
+mod form_words;
 pub mod nth;
 mod table;
 

@@ -3,7 +3,7 @@ ghost use Rattle.std.specs.Prelude.{◌≡◌, drop};
 ghost use Rattle.put.specs.Wrote.{held, Puts};
 ghost use Rattle.words.specs.Table.{is_silent, step_text, step_state, step_taken, filled};
 
-use crate::form;
+use crate::form_words;
 
 // Whether a byte of a table that is no form puts nothing.
 fn is_silent(q: u8, b: u8) -> bool
@@ -17,7 +17,7 @@ fn put_step(out: &mut [u8], at: usize, q: u8, b: u8, numbers: &[i64]) -> usize
     ensures { Puts (held at out.old) (step_text q b numbers.now) (held result out.new) }
 {
     if q == 1 {
-        return form::put_value(out, at, b, numbers);
+        return form_words::put_value(out, at, b, numbers);
     }
     if is_silent(q, b) {
         return at;
@@ -30,7 +30,11 @@ fn state(q: u8, b: u8, numbers: &[i64]) -> u8
     ensures { result ≡ step_state q b numbers.now }
 {
     if q == 1 {
-        return if form::is_sent(b, numbers) { 0 } else { 2 };
+        return if form_words::is_sent(b, numbers) {
+            0
+        } else {
+            2
+        };
     }
     if b == b'%' {
         return 1;
@@ -43,7 +47,7 @@ fn taken(q: u8, b: u8) -> usize
     ensures { result ≡ step_taken q b }
 {
     if q == 1 {
-        return form::taken(b);
+        return form_words::taken(b);
     }
     0
 }
@@ -60,14 +64,14 @@ pub(crate) fn put_table(
         (held result out.new) }
 {
     let mut a = at;
-    let mut n = form::past(numbers, 0, from);
+    let mut n = form_words::past(numbers, 0, from);
     let mut q: u8 = 0;
     let mut i: usize = 0;
     while i < table.len() {
         let b = table[i];
         let left = &numbers[n..];
         a = put_step(out, a, q, b, left);
-        n = form::past(numbers, n, taken(q, b));
+        n = form_words::past(numbers, n, taken(q, b));
         q = state(q, b, left);
         i += 1;
     }

@@ -3,7 +3,7 @@ use mathlib.Core.Path.{◌∙◌, ap}
 use Rattle.put.proofs.Chain.{◌⨾◌}
 use Rattle.words.specs.Nth.{nth}
 use Rattle.words.specs.Fields.{field_text}
-use Rattle.words.proofs.fields.put_field.Goals as goal
+use Rattle.words.proofs.field_words.put_field.Goals as goal
 
 pub returns : goal.returns
 unfolding field_text

@@ -1,7 +1,7 @@
 -- By whether the letter is one of the measures.
 use borrow.Author.Tests.{lt-ltb, le-ltb}
 use Rattle.words.specs.Forms.{form_text}
-use Rattle.words.proofs.form.put_form.Goals as goal
+use Rattle.words.proofs.form_words.put_form.Goals as goal
 
 pub returns-then-find-lt8 : goal.returns-then-find-lt8
 unfolding form_text

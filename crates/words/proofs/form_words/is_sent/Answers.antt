@@ -1,6 +1,6 @@
 -- By the letter, or by the mark.
 use Rattle.words.specs.Forms.{is_sent}
-use Rattle.words.proofs.form.is_sent.Goals as goal
+use Rattle.words.proofs.form_words.is_sent.Goals as goal
 
 pub returns : goal.returns
 unfolding is_sent

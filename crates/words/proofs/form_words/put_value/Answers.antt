@@ -2,7 +2,7 @@
 use mathlib.Core.Path.{◌∙◌}
 use Rattle.words.specs.Forms.{value_text}
 use Rattle.words.proofs.FormLaws.{part-is}
-use Rattle.words.proofs.form.put_value.Goals as goal
+use Rattle.words.proofs.form_words.put_value.Goals as goal
 
 pub returns-then-is_sent : goal.returns-then-is_sent
 unfolding value_text

@@ -3,7 +3,7 @@ use native.Mathlib.Omega.{arith}
 use borrow.Author.Tests.{eq-eqb, ne_eqb}
 use Rattle.words.specs.Forms.{taken_by}
 use Rattle.words.proofs.FormLaws.{marks-most}
-use Rattle.words.proofs.form.taken.Goals as goal
+use Rattle.words.proofs.form_words.taken.Goals as goal
 
 pub overflow_add-result : goal.overflow_add-result
 overflow_add-result c = omega (arith, marks-most c.args.f, c.marks-before.ensures)
