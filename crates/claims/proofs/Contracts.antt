@@ -39,11 +39,11 @@ use Rattle.host.specs.contracts.castanwel_refusal as refusal
 use Rattle.host.specs.contracts.commands.castanwel_start as start
 use Rattle.host.specs.contracts.commands.castanwel_step as step
 use Rattle.host.specs.contracts.commands.castanwel_counts as counts
-use Rattle.host.specs.contracts.cuts.castanwel_run_step as run_step
+use Rattle.host.specs.contracts.cuts.castanwel_run_step as run-step
 use Rattle.host.specs.contracts.groups.castanwel_read_group as read-group
 use Rattle.host.specs.contracts.groups.castanwel_write_group as write-group
 use Rattle.host.specs.contracts.indexes.castanwel_index_write as index-write
-use Rattle.host.specs.contracts.indexes.castanwel_index_read as index_read
+use Rattle.host.specs.contracts.indexes.castanwel_index_read as index-read
 use Rattle.host.specs.contracts.indexes.castanwel_index_add as index-add
 use Rattle.host.specs.contracts.indexes.castanwel_index_find as index-find
 use Rattle.host.specs.contracts.sentences.castanwel_read as read
@@ -183,20 +183,20 @@ module _ {M : Type 1} {𝓤 : Ura M} (𝓛 : Logic 𝓤) (mem : Memory → SProp
   index-write-says κs = (refl, refl, refl, refl, refl)
 
   pub index-read-says : (κs : Lfts 5)
-      → (index_read.ensures-value 𝓛 κs mem run
+      → (index-read.ensures-value 𝓛 κs mem run
       ≡ (λ _ _ _ _ _ index' entries' _ _ _ r. fact 𝓤
       (r ≡ (listed_for (read_index index'.entry.now) (length entries'.entry.now)).no)))
-      × (index_read.ensures-count_after 𝓛 κs mem run
+      × (index-read.ensures-count_after 𝓛 κs mem run
       ≡ (λ _ _ _ _ _ index' entries' count' _ _ _. fact 𝓤 (count'.exit.now
       ≡ set_at (listed_for (read_index index'.entry.now) (length entries'.entry.now)).no
       (listed_for (read_index index'.entry.now) (length entries'.entry.now)).count count'.entry.now)))
-      × (index_read.ensures-line_after 𝓛 κs mem run
+      × (index-read.ensures-line_after 𝓛 κs mem run
       ≡ (λ _ _ _ _ _ index' entries' _ line' _ _. fact 𝓤
       (line'.exit.now ≡ (listed_for (read_index index'.entry.now) (length entries'.entry.now)).line)))
-      × (index_read.ensures-field_after 𝓛 κs mem run
+      × (index-read.ensures-field_after 𝓛 κs mem run
       ≡ (λ _ _ _ _ _ index' entries' _ _ field' _. fact 𝓤
       (field'.exit.now ≡ (listed_for (read_index index'.entry.now) (length entries'.entry.now)).field)))
-      × (index_read.ensures-entries_after 𝓛 κs mem run
+      × (index-read.ensures-entries_after 𝓛 κs mem run
       ≡ (λ _ _ _ _ _ index' entries' _ _ _ _. fact 𝓤
       (entries'.exit.now ≡ laid_entries (read_index index'.entry.now) entries'.entry.now)))
   index-read-says κs = (refl, refl, refl, refl, refl)
@@ -274,20 +274,20 @@ module _ {M : Type 1} {𝓤 : Ura M} (𝓛 : Logic 𝓤) (mem : Memory → SProp
   write-says κs = (refl, refl, refl, refl, refl)
 
   pub run-step-says : (κs : Lfts 5)
-      → (run_step.ensures-value 𝓛 κs mem run
+      → (run-step.ensures-value 𝓛 κs mem run
       ≡ (λ _ _ _ _ _ lines' last' line' _ _ r. fact 𝓤
       (r ≡ (step_of (open_of lines'.entry.now last'.entry.now) (says_of (read_line line'.entry.now))).joins)))
-      × (run_step.ensures-before_after 𝓛 κs mem run
+      × (run-step.ensures-before_after 𝓛 κs mem run
       ≡ (λ _ _ _ _ _ lines' last' line' before' _ _. fact 𝓤
       (before'.exit.now ≡ (step_of (open_of lines'.entry.now last'.entry.now) (says_of (read_line line'.entry.now))).before)))
-      × (run_step.ensures-ends_after 𝓛 κs mem run
+      × (run-step.ensures-ends_after 𝓛 κs mem run
       ≡ (λ _ _ _ _ _ lines' last' line' _ ends' _. fact 𝓤
       (ends'.exit.now ≡ (step_of (open_of lines'.entry.now last'.entry.now) (says_of (read_line line'.entry.now))).ends)))
-      × (run_step.ensures-lines_after 𝓛 κs mem run
+      × (run-step.ensures-lines_after 𝓛 κs mem run
       ≡ (λ _ _ _ _ _ lines' last' line' _ _ _. fact 𝓤
       (lines'.exit.now
       ≡ (step_of (open_of lines'.entry.now last'.entry.now) (says_of (read_line line'.entry.now))).next.lines)))
-      × (run_step.ensures-last_after 𝓛 κs mem run
+      × (run-step.ensures-last_after 𝓛 κs mem run
       ≡ (λ _ _ _ _ _ lines' last' line' _ _ _. fact 𝓤
       (last'.exit.now
       ≡ (step_of (open_of lines'.entry.now last'.entry.now) (says_of (read_line line'.entry.now))).next.last)))
