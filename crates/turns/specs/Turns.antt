@@ -13,7 +13,7 @@ pub record Keeps (a e : ℕ) (buf : List ℕ) (count : ℕ) (left : List ℕ) : 
   pub many : count ≡ length (part a e buf)
   pub bytes : left ≡ part a e buf ++ drop count buf
 
--- What is not in the buffer is not written.
+-- What is not in the buffer is not written. Of a write within it to standard output or a file nothing is known but that it was tried.
 pub record Flushes (out : List ℕ) (place : ℕ) (answer : Bool) : Type 0 where
   pub beyond : length out < place → answer ≡ false
 
