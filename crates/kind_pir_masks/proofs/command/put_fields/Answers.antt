@@ -1,4 +1,5 @@
 -- Field after field.
+use borrow.Author.Rules.{rules}
 use Rattle.put.proofs.Chain.{◌then◌}
 use Rattle.form.specs.Kind.{fields_for}
 use Rattle.kind_pir_masks.specs.Command.{pirsr_row}
@@ -6,5 +7,4 @@ use Rattle.kind_pir_masks.proofs.command.put_fields.Goals as goal
 
 pub returns : goal.returns
 unfolding fields_for pirsr_row
-returns c =
-    c.eight-a0.ensures then c.six-a1.ensures then c.empty.ensures
+returns c = search (rules, ◌then◌)
