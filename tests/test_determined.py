@@ -3,6 +3,7 @@
 A clause and an entry are compared as trees of names, each name with the file that defines it; a parameter is its place among those that the
 clauses name. So a weakened `ensures` has no entry any more, and its entry no function."""
 import functools
+import itertools
 import pathlib
 import re
 import shutil
@@ -12,12 +13,12 @@ from programs import ROOT
 CLAIMS = ROOT / "crates" / "claims" / "proofs"
 # Entries that stand with other claims; and theorems beside the entries.
 ELSEWHERE = {"Skies": ("read-group", "write-group", "table-fault", "table-rest")}
-HELPERS = {"one", "read", "one-put", "one-writing"}
+HELPERS = {"one", "read", "one-put", "one-fields", "one-writing"}
 # The functions without a contract about their outcome, which the claim cannot be made of: they read and write files, of which the kit's
 # contracts say nothing (docs/DECISIONS.md); `flush` and `read_more` have a contract, about what they do beside that. `fail` writes a row of
-# words, and `arg_count` asks the system how many words there are.
+# words, and `arg_count` asks the system how many words there are. `line` says where its bytes lie among those that were read.
 FILES = {"exhibits_" + name for name in ("adding", "checking", "renewing", "rows", "says", "showing", "storing", "walks")}
-STREAMS = {("turns", "flush"), ("turns", "read_more"), ("turns", "fail"), ("turns", "arg_count")}
+STREAMS = {("turns", "flush"), ("turns", "read_more"), ("turns", "fail"), ("turns", "arg_count"), ("exhibits_walks", "line")}
 # What a clause calls the answer.
 RESULT = "result"
 # Where names are defined that a relation or an entry has in another word.
@@ -85,7 +86,7 @@ def origin(file, name):
 def names(text):
     """Where the names that a file uses are defined: name to file and name there, and the short names of files."""
     found, files = {}, {}
-    for path, short, listed in re.findall(r"^(?:ghost )?use ([^\s;{]+?)(?: as (\S+?)|\.\{([^}]*)\})?;?$", text, re.MULTILINE):
+    for path, short, listed in re.findall(r"^ *(?:ghost )?use ([^\s;{]+?)(?: as (\S+?)|\.\{([^}]*)\})?;?$", text, re.MULTILINE):
         if short:
             files[short] = path
         for one in filter(None, (word.strip() for word in listed.split(","))):
@@ -201,9 +202,56 @@ def functions():
             head = signature(text[match.end():])
             given = head[head.index("("):]
             given = given[:closing(given) + 1]
-            parameters = re.findall(r"(\w+)\s*:(?!:)", given)
+            parameters = re.findall(r"^\((?:&\s*)?(?:mut )?(self)\b", given) + re.findall(r"(\w+)\s*:(?!:)", given)
+            members = sorted(set(re.findall(r"\b[A-Z]\w*\.[a-z]\w*", head))) if given != head[:len(given)] else []
             clauses = [clause(head[at.end():]) for at in re.finditer(r"\bensures\b", head)]
-            yield path.parts[-3], path, match.group(1), parameters, clauses
+            yield path.parts[-3], path, match.group(1), members + parameters, clauses
+
+
+def methods(path, text):
+    """The same of each method of a trait that has a contract, as each type has it: with what the type gives for the trait's members."""
+    for match in re.finditer(r"^impl(?:<[^>]*>)? (\w+)(?:<.*?>)? for (\w+) (?=\{)", text, re.MULTILINE):
+        block = text[match.end():match.end() + closing(text[match.end():])]
+        given = {name: term.replace("(", " ( ").replace(")", " ) ").split() for name, term in re.findall(r"\bghost (\w+) = \{ (.*?) \};", block)}
+        for name, parameters, clauses, words in promised().get(match.group(1), ()) if given else ():
+            said = [(label, applied(formula, given)) for label, formula in clauses]
+            yield path.parts[-3], path, f"{match.group(2)}_{name}", parameters, said, words
+
+
+def applied(formula, given):
+    """A trait's clause with a type's own terms for its members; a member that is a function is given the words behind it."""
+    words, said = re.findall(r"[()]|[^\s()]+", formula), []
+    while words:
+        word = words.pop(0)
+        name, dot, field = word.partition(".")
+        if name not in given:
+            said.append(word)
+        elif given[name][0] == "λ":
+            head = given[name][1:[one.endswith(".") for one in given[name]].index(True) + 1]
+            values = dict(zip((one.rstrip(".") for one in head), [words.pop(0) for _ in head]))
+            said += ["(", *(re.sub(r"\w+", lambda one: values.get(one.group(0), one.group(0)), one, count=1) for one in given[name][len(head) + 1:]), ")"]
+        else:
+            said.append(" ".join(given[name]) + dot + field)
+    return " ".join(said)
+
+
+@functools.cache
+def promised():
+    """Each trait, with its methods: name, the names of the parameters, the clauses, and the file that says them. That of `From` is the kit's."""
+    found = {"From": [("from", ["g"], [("", "from_gives g result")], "")]}
+    for path in public():
+        text = re.sub(r"//[^\n]*", "", path.read_text())
+        uses = "".join(re.findall(r"^ghost use .*\n", text, re.MULTILINE))
+        for match in re.finditer(r"^pub trait (\w+)[^{]*(?=\{)", text, re.MULTILINE):
+            block = text[match.end():match.end() + closing(text[match.end():])]
+            for method in re.finditer(r"\bfn (\w+)", block):
+                head = block[method.end():block.index(";", method.end())]
+                given = head[head.index("("):]
+                given = given[:closing(given) + 1]
+                parameters = re.findall(r"^\((?:&\s*)?(?:mut )?(self)\b", given) + re.findall(r"(\w+)\s*:(?!:)", given)
+                clauses = [clause(head[at.end():]) for at in re.finditer(r"\bensures\b", head)]
+                found.setdefault(match.group(1), []).append((method.group(1), parameters, clauses, uses))
+    return found
 
 
 def clause(text):
@@ -250,10 +298,11 @@ def entries():
 
 def contracts():
     said = {}
-    for crate, path, name, parameters, clauses in functions():
+    impls = (one for path in public() for one in methods(path, re.sub(r"//[^\n]*", "", path.read_text())))
+    for crate, path, name, parameters, clauses, *words in itertools.chain(functions(), impls):
         if crate in FILES and not clauses or (crate, name) in STREAMS:
             continue
-        scope, parts = Scope(path.read_text(), parameters, {RESULT}), []
+        scope, parts = Scope("".join([*words, path.read_text()]), parameters, {RESULT}), []
         for _, formula in clauses:
             parts += formulas(scope.resolved(bare(tree(formula))))
         said[f"{crate}::{path.stem}::{name}"] = canonical(parts, parameters, {RESULT})

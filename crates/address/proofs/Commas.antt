@@ -3,7 +3,7 @@ use Prim.Native.Nat.{◌≤◌, ℕ}
 use mathlib.Core.Path.{◌∙◌, ◌≡◌, ap, refl, sym}
 use mathlib.Core.List.{[], ◌++◌, ◌∷◌, List}
 use mathlib.Core.Bool.{Bool, false, not, true}
-use mathlib.Core.Option.{none, Option, some}
+use Rattle.std.proofs.Common.{Option, Some, None}
 use native.Mathlib.Omega.{arith}
 use lib.ListN.{drop, get_or, length, get_or-eq_default, take, take-append-drop}
 use lib.Dec.{eqb}
@@ -37,20 +37,20 @@ pirs-free = refl
 
 -- the address of bytes with a comma among them
 module _ (a : List ℕ) (n : comma_free a ≡ true → ⊥) where
-  by_kind : (t : Talker) → talker_of (take 2 a) ≡ some t → (k : Option Kind) → kind_of (drop 2 a) ≡ k → standard t k ≡ Unknown
-  by_kind t e (some k) f =
+  by_kind : (t : Talker) → talker_of (take 2 a) ≡ Some t → (k : Option Kind) → kind_of (drop 2 a) ≡ k → standard t k ≡ Unknown
+  by_kind t e (Some k) f =
       absurd (n (ap comma_free (sym (take-append-drop 2 a))
       ∙ free-join (take 2 a) (drop 2 a) (found-passes comma_free (take 2 a) talkers t talkers-free e)
       (found-passes comma_free (drop 2 a) kinds k kinds-free f)))
-  by_kind t e none f = refl
+  by_kind t e None f = refl
 
   by-maker : (p : Option Pir) → pir_of a ≡ p → maker p ≡ Unknown
-  by-maker (some p) f = absurd (n (found-passes comma_free a pirs p pirs-free f))
-  by-maker none f = refl
+  by-maker (Some p) f = absurd (n (found-passes comma_free a pirs p pirs-free f))
+  by-maker None f = refl
 
   by-talker : (o : Option Talker) → talker_of (take 2 a) ≡ o → talked o a ≡ Unknown
-  by-talker (some t) e = by_kind t e (kind_of (drop 2 a)) refl
-  by-talker none e = by-maker (pir_of a) refl
+  by-talker (Some t) e = by_kind t e (kind_of (drop 2 a)) refl
+  by-talker None e = by-maker (pir_of a) refl
 
   pub comma-unknown : known_of a ≡ Unknown
   unfolding known_of

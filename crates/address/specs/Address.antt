@@ -1,8 +1,7 @@
 -- Address: talker GP, GL, GA, GQ or GN with one of the seven types, compared with the fixed bytes of each type; or one of the eight
 -- PIR addresses in full.
-use Rattle.std.specs.Prelude.{ℕ, ◌&&◌, Bool, not, true, [], ◌∷◌, List, eqb, drop, get_or, take}
+use Rattle.std.specs.Prelude.{ℕ, Option, Some, None, ◌&&◌, Bool, not, true, [], ◌∷◌, List, eqb, drop, get_or, take}
 use Prim.Native.String.{String}
-use Rattle.std.proofs.Math.Option.{none, Option, some}
 use Rattle.digits.specs.Ascii.{ascii}
 use Rattle.digits.specs.Pick.{pick}
 use Rattle.digits.specs.Same.{same}
@@ -37,8 +36,8 @@ pirs =
 
 -- The thing of a table whose bytes are a.
 unfoldable pub look_up : {A : Type 0} → List ℕ → List (Named A) → Option A
-look_up a [] = none
-look_up a (n ∷ ns) = pick (same a n.bytes) (some n.thing) (look_up a ns)
+look_up a [] = None
+look_up a (n ∷ ns) = pick (same a n.bytes) (Some n.thing) (look_up a ns)
 
 abbrev pub talker_of : List ℕ → Option Talker
 talker_of a = look_up a talkers
@@ -50,17 +49,17 @@ abbrev pub pir_of : List ℕ → Option Pir
 pir_of a = look_up a pirs
 
 abbrev pub standard : Talker → Option Kind → Address
-standard t (some k) = Standard t k
-standard t none = Unknown
+standard t (Some k) = Standard t k
+standard t None = Unknown
 
 abbrev pub maker : Option Pir → Address
-maker (some p) = Maker p
-maker none = Unknown
+maker (Some p) = Maker p
+maker None = Unknown
 
 -- A talker has one of the seven types after it; anything else is a PIR address in full, or unknown.
 abbrev pub talked : Option Talker → List ℕ → Address
-talked (some t) a = standard t (kind_of (drop 2 a))
-talked none a = maker (pir_of a)
+talked (Some t) a = standard t (kind_of (drop 2 a))
+talked None a = maker (pir_of a)
 
 unfoldable pub known_of : List ℕ → Address
 known_of a = talked (talker_of (take 2 a)) a

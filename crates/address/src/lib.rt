@@ -2,10 +2,10 @@
 #![tactic(auto)]
 
 ghost use Rattle.std.specs.Prelude.{◌≡◌, length};
-ghost use Rattle.address.specs.Address.{kind_of, pir_of, known_of, address_of, standard, maker};
+ghost use Rattle.address.specs.Address.{talker_of, kind_of, pir_of, known_of, address_of};
 
 // The talkers of the five satellite systems' receivers.
-#[derive(Clone, Copy)]
+#[derive(Clone, Copy, PartialEq, Eq, Debug)]
 pub enum Talker {
     Gp,
     Gl,
@@ -15,7 +15,7 @@ pub enum Talker {
 }
 
 // The seven types of sentence that any of them sends.
-#[derive(Clone, Copy)]
+#[derive(Clone, Copy, PartialEq, Eq, Debug)]
 pub enum Kind {
     Gga,
     Gll,
@@ -27,7 +27,7 @@ pub enum Kind {
 }
 
 // The maker's own sentences: four commands and their replies.
-#[derive(Clone, Copy)]
+#[derive(Clone, Copy, PartialEq, Eq, Debug)]
 pub enum Pir {
     Pr,
     Tr,
@@ -39,70 +39,59 @@ pub enum Pir {
     Ea,
 }
 
-#[derive(Clone, Copy)]
+#[derive(Clone, Copy, PartialEq, Eq, Debug)]
 pub enum Address {
     Standard(Talker, Kind),
     Maker(Pir),
     Unknown,
 }
 
-// The address of a talker with the type whose three bytes are `a`.
-fn kind_of(t: Talker, a: &[u8]) -> Address
-    ensures { result ≡ standard t (kind_of a.now) }
+// The talker, the type and the maker's sentence whose bytes are `a`.
+#[tactic(auto, using(crate::proofs::Tables::no_talker))]
+fn talker_of(a: &[u8]) -> Option<Talker>
+    ensures { result ≡ talker_of a.now }
 {
-    if digits::same_bytes(a, b"GGA") {
-        return Address::Standard(t, Kind::Gga);
+    match a {
+        b"GP" => Some(Talker::Gp),
+        b"GL" => Some(Talker::Gl),
+        b"GA" => Some(Talker::Ga),
+        b"GQ" => Some(Talker::Gq),
+        b"GN" => Some(Talker::Gn),
+        _ => None,
     }
-    if digits::same_bytes(a, b"GLL") {
-        return Address::Standard(t, Kind::Gll);
-    }
-    if digits::same_bytes(a, b"GSA") {
-        return Address::Standard(t, Kind::Gsa);
-    }
-    if digits::same_bytes(a, b"GSV") {
-        return Address::Standard(t, Kind::Gsv);
-    }
-    if digits::same_bytes(a, b"RMC") {
-        return Address::Standard(t, Kind::Rmc);
-    }
-    if digits::same_bytes(a, b"VTG") {
-        return Address::Standard(t, Kind::Vtg);
-    }
-    if digits::same_bytes(a, b"ZDA") {
-        return Address::Standard(t, Kind::Zda);
-    }
-    Address::Unknown
 }
 
-// The maker's address whose five bytes are `a`.
-fn pir_of(a: &[u8]) -> Address
-    ensures { result ≡ maker (pir_of a.now) }
+#[tactic(auto, using(crate::proofs::Tables::no_kind))]
+fn kind_of(a: &[u8]) -> Option<Kind>
+    ensures { result ≡ kind_of a.now }
 {
-    if digits::same_bytes(a, b"PIRPR") {
-        return Address::Maker(Pir::Pr);
+    match a {
+        b"GGA" => Some(Kind::Gga),
+        b"GLL" => Some(Kind::Gll),
+        b"GSA" => Some(Kind::Gsa),
+        b"GSV" => Some(Kind::Gsv),
+        b"RMC" => Some(Kind::Rmc),
+        b"VTG" => Some(Kind::Vtg),
+        b"ZDA" => Some(Kind::Zda),
+        _ => None,
     }
-    if digits::same_bytes(a, b"PIRTR") {
-        return Address::Maker(Pir::Tr);
+}
+
+#[tactic(auto, using(crate::proofs::Tables::no_pir))]
+fn pir_of(a: &[u8]) -> Option<Pir>
+    ensures { result ≡ pir_of a.now }
+{
+    match a {
+        b"PIRPR" => Some(Pir::Pr),
+        b"PIRTR" => Some(Pir::Tr),
+        b"PIRSR" => Some(Pir::Sr),
+        b"PIRER" => Some(Pir::Er),
+        b"PIRPA" => Some(Pir::Pa),
+        b"PIRTA" => Some(Pir::Ta),
+        b"PIRSA" => Some(Pir::Sa),
+        b"PIREA" => Some(Pir::Ea),
+        _ => None,
     }
-    if digits::same_bytes(a, b"PIRSR") {
-        return Address::Maker(Pir::Sr);
-    }
-    if digits::same_bytes(a, b"PIRER") {
-        return Address::Maker(Pir::Er);
-    }
-    if digits::same_bytes(a, b"PIRPA") {
-        return Address::Maker(Pir::Pa);
-    }
-    if digits::same_bytes(a, b"PIRTA") {
-        return Address::Maker(Pir::Ta);
-    }
-    if digits::same_bytes(a, b"PIRSA") {
-        return Address::Maker(Pir::Sa);
-    }
-    if digits::same_bytes(a, b"PIREA") {
-        return Address::Maker(Pir::Ea);
-    }
-    Address::Unknown
 }
 
 // The address whose five bytes are `a`.
@@ -110,24 +99,16 @@ fn known_of(a: &[u8]) -> Address
     requires { length a.now ≡ 5 }
     ensures { result ≡ known_of a.now }
 {
-    let talker = &a[0..2];
-    let kind = &a[2..5];
-    if digits::same_bytes(talker, b"GP") {
-        return kind_of(Talker::Gp, kind);
+    match talker_of(&a[0..2]) {
+        Some(t) => match kind_of(&a[2..5]) {
+            Some(k) => Address::Standard(t, k),
+            None => Address::Unknown,
+        },
+        None => match pir_of(a) {
+            Some(p) => Address::Maker(p),
+            None => Address::Unknown,
+        },
     }
-    if digits::same_bytes(talker, b"GL") {
-        return kind_of(Talker::Gl, kind);
-    }
-    if digits::same_bytes(talker, b"GA") {
-        return kind_of(Talker::Ga, kind);
-    }
-    if digits::same_bytes(talker, b"GQ") {
-        return kind_of(Talker::Gq, kind);
-    }
-    if digits::same_bytes(talker, b"GN") {
-        return kind_of(Talker::Gn, kind);
-    }
-    pir_of(a)
 }
 
 // The address of a line's body: the five bytes before its first comma, where they are known.
@@ -136,10 +117,7 @@ fn known_of(a: &[u8]) -> Address
 pub fn address_of(body: &[u8]) -> Address
     ensures { result ≡ address_of body.now }
 {
-    if body.len() < 6 {
-        return Address::Unknown;
-    }
-    if body[5] != b',' {
+    if body.len() < 6 || body[5] != b',' {
         return Address::Unknown;
     }
     known_of(&body[0..5])

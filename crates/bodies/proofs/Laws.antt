@@ -1,16 +1,16 @@
 -- A body is what a line can have, from both sides of the line rule; and a search for a byte that may not stand in one, as a loop meets it.
-use Prim.Native.Nat.{◌+◌, ◌-◌, ◌<◌, ◌≤◌, suc, ℕ}
+use Prim.Native.Nat.{◌+◌, ◌<◌, ◌≤◌, suc, ℕ}
 use mathlib.Core.Path.{◌∙◌, ◌≡◌, ap, refl, subst, sym}
 use mathlib.Core.List.{[], ◌++◌, ◌∷◌, List}
-use mathlib.Core.Bool.{◌&&◌, Bool, cond, false, true}
+use mathlib.Core.Bool.{not, ◌&&◌, Bool, cond, false, true}
 use native.Mathlib.Omega.{arith}
 use native.Mathlib.Numerals.{add-one}
 use lib.Dec.{eqb, leb, ltb}
-use lib.ListN.{drop, drop_of_length-le, get_or, length, take}
-use lib.Seq.{drop-cons, take_all, take_at}
+use lib.ListN.{drop, length, take}
+use lib.Seq.{take_all, take_at}
 use borrow.Author.Tests.{eq-eqb, eqb-false, le-leb, le-ltb, leb-true, lt-leb, lt-ltb, ltb-false, ltb-true, ne_eqb}
 use Rattle.digits.specs.Pick.{pick}
-use Rattle.digits.proofs.Bools.{and_left, and_right, and-true, true-false}
+use Rattle.digits.proofs.Bools.{and_left, and_right, true-false}
 use Rattle.line.specs.Line.{as_line, body_byte, body_bytes, body_of, line_refusal}
 use Rattle.line.proofs.Form.{accepted, accepts, Body, body-of}
 use Rattle.line.proofs.Laws.{line-short}
@@ -18,7 +18,11 @@ use Rattle.frame.specs.declared.Written.{Written}
 use Rattle.frame.specs.Written.{fault_at, left_of, refused, Writes, written_of, wrote}
 use Rattle.frame.proofs.Sealing.{line-length}
 use Rattle.bodies.specs.declared.Why.{Why}
-use Rattle.bodies.specs.declared.Why.TheVariants.{Empty, Long, Nothing, Other}
+use Rattle.bodies.specs.declared.Why.TheVariants.{Empty, Long, Other}
+use Rattle.std.proofs.Common.{Option, Some, None}
+use Rattle.std.proofs.lemmas.Option.{MatchOption-at_none, MatchOption-at_some}
+use Rattle.std.specs.Option.{is_some, IsSomeAnd, MatchOption}
+use Rattle.std.specs.List.{position_or_len}
 use Rattle.bodies.specs.Bodies.{body_fault, is_body, other_in, why_of}
 
 -- What the test says, and what makes it hold.
@@ -123,46 +127,48 @@ faultless s e = go (is_body s) refl e
     go true p f = p
     go false p f = let z : ⊥ = omega (arith, f) in absurd z
 
--- One byte by itself is a body exactly where it may stand in one.
-one_byte : (b : ℕ) → is_body (b ∷ []) ≡ body_byte b
-unfolding is_body body_bytes
-one_byte b = and-true (body_byte b)
+-- The bytes before the first that may not stand in a body, as a search counts them.
+abbrev pub may_not_stand : ℕ → Bool
+may_not_stand b = not (body_byte b)
 
-pub part-byte : (s : List ℕ) (i : ℕ) → i < length s → body_byte (get_or s i 0) ≡ is_body (take (i + 1 - i) (drop i s))
-part-byte s i h = let e : i + 1 - i ≡ 1 = omega arith in rw (e, drop-cons s i 0 h) (sym (one_byte (get_or s i 0)))
-
-module _ (s : List ℕ) (i : ℕ) where
-  pub other-here : i < length s → body_byte (get_or s i 0) ≡ false → other_in (drop i s) ≡ 0
-  unfolding other_in
-  other-here h e = rw (drop-cons s i 0 h, e)
-
-  pub other-on : i < length s → body_byte (get_or s i 0) ≡ true → other_in (drop i s) ≡ other_in (drop (i + 1) s) + 1
-  unfolding other_in
-  other-on h e = rw (drop-cons s i 0 h, e, add-one i)
-
-  pub other-end : length s ≤ i → other_in (drop i s) ≡ 0
-  unfolding other_in
-  other-end h = rw (drop_of_length-le s h)
+pub other-place : (s : List ℕ) → position_or_len may_not_stand s ≡ other_in s
+unfolding other_in
+other-place [] = refl
+other-place (b ∷ s) = go (body_byte b) (other-place s)
+  where
+    go : (t : Bool) → position_or_len may_not_stand s ≡ other_in s → cond (not (not t)) (1 + position_or_len may_not_stand s) 0 ≡ cond t (other_in s + 1) 0
+    go true e = omega arith
+    go false e = refl
 
 -- The reasons, in the code's order.
 module _ (s : List ℕ) where
-  pub why-empty : length s ≡ 0 → Empty ≡ why_of s
+  pub why-empty : eqb (length s) 0 ≡ true → Some Empty ≡ why_of s
   unfolding why_of
-  why-empty h = rw (eq-eqb (length s) 0 h)
+  why-empty h = rw h
 
-  module _ (h : length s ≡ 0 → ⊥) where
-    pub why-long : 76 < length s → Long ≡ why_of s
+  module _ (h : eqb (length s) 0 ≡ false) where
+    pub why-long : 76 < length s → Some Long ≡ why_of s
     unfolding why_of
-    why-long k = rw (ne_eqb (length s) 0 h, lt-ltb 76 (length s) k)
+    why-long k = rw (h, lt-ltb 76 (length s) k)
 
-    module _ (k : length s ≤ 76) where
-      pub why-other : {i : ℕ} → i ≡ other_in s → i < length s → Other i ≡ why_of s
-      unfolding why_of
-      why-other {i} e l = rw (ne_eqb (length s) 0 h, le-ltb 76 (length s) k, lt-ltb (other_in s) (length s) (omega arith)) (ap Other e)
+    pub why-other : length s ≤ 76 → pick (ltb (other_in s) (length s)) (Some (Other (other_in s))) None ≡ why_of s
+    unfolding why_of
+    why-other k = rw (h, le-ltb 76 (length s) k)
 
-      pub why-nothing : {i : ℕ} → i ≡ other_in s → length s ≤ i → Nothing ≡ why_of s
-      unfolding why_of
-      why-nothing {i} e l = rw (ne_eqb (length s) 0 h, le-ltb 76 (length s) k, le-ltb (other_in s) (length s) (omega arith))
+-- What a search for the first byte that may not stand in a body becomes.
+pub why-found : (s : List ℕ) {o : Option ℕ} {r : Option Why} (P : ℕ → Why → Type 0) → ((i : ℕ) (w : Why) → P i w → w ≡ Other i)
+    → o ≡ cond (ltb (position_or_len may_not_stand s) (length s)) (Some (position_or_len may_not_stand s)) None
+    → MatchOption o (r ≡ None) (λ i. IsSomeAnd r (P i)) → r ≡ pick (ltb (other_in s) (length s)) (Some (Other (other_in s))) None
+why-found s {o} {r} P h e m = go (ltb (other_in s) (length s)) o r (rw (other-place s) at e) m
+  where
+    go : (t : Bool) (o : Option ℕ) (r : Option Why) → o ≡ cond t (Some (other_in s)) None → MatchOption o (r ≡ None) (λ i. IsSomeAnd r (P i))
+        → r ≡ pick t (Some (Other (other_in s))) None
+    go true o r e m = some r (MatchOption-at_some _ _ (other_in s) e m)
+      where
+        some : (r : Option Why) → IsSomeAnd r (P (other_in s)) → r ≡ Some (Other (other_in s))
+        some None x = absurd x
+        some (Some w) x = ap Some (h (other_in s) w x)
+    go false o r e m = MatchOption-at_none _ _ e m
 
 -- All bytes may stand in a body exactly where none is found that may not.
 all-stand : (s : List ℕ) → body_bytes s ≡ true → other_in s ≡ length s
@@ -180,27 +186,21 @@ stand-all (b ∷ s) h = go (body_byte b) refl h (stand-all s)
     go true e k i = rw e (i (omega arith))
     go false e k i = let z : ⊥ = omega arith in absurd z
 
-abbrev is_nothing : Why → Type 0
-is_nothing Nothing = Unit
-is_nothing Empty = ⊥
-is_nothing Long = ⊥
-is_nothing (Other i) = ⊥
-
 -- A reason is given exactly where the bytes are no body.
-pub body-nothing : (s : List ℕ) → is_body s ≡ true → why_of s ≡ Nothing
+pub body-nothing : (s : List ℕ) → is_body s ≡ true → why_of s ≡ None
 body-nothing s e =
     let b = body_is s e in
-    sym (why-nothing s (λ z. omega (arith, b.some)) b.room refl (omega (arith, all-stand s b.good)))
+    sym (why-other s (ne_eqb (length s) 0 (λ z. omega (arith, b.some))) b.room) ∙ rw (le-ltb (other_in s) (length s) (omega (arith, all-stand s b.good)))
 
-pub nothing-body : (s : List ℕ) → why_of s ≡ Nothing → is_body s ≡ true
+pub nothing-body : (s : List ℕ) → why_of s ≡ None → is_body s ≡ true
 unfolding why_of
-nothing-body s e = go (eqb (length s) 0) (ltb 76 (length s)) (ltb (other_in s) (length s)) refl refl refl e
+nothing-body s e = go (eqb (length s) 0) (ltb 76 (length s)) (ltb (other_in s) (length s)) refl refl refl (ap is_some e)
   where
     go : (a b c : Bool) → eqb (length s) 0 ≡ a → ltb 76 (length s) ≡ b → ltb (other_in s) (length s) ≡ c
-        → pick a Empty (pick b Long (pick c (Other (other_in s)) Nothing)) ≡ Nothing → is_body s ≡ true
-    go true b c p q r f = absurd (subst is_nothing (sym f) tt)
-    go false true c p q r f = absurd (subst is_nothing (sym f) tt)
-    go false false true p q r f = absurd (subst is_nothing (sym f) tt)
+        → is_some (pick a (Some Empty) (pick b (Some Long) (pick c (Some (Other (other_in s))) None))) ≡ false → is_body s ≡ true
+    go true b c p q r f = absurd (true-false refl f)
+    go false true c p q r f = absurd (true-false refl f)
+    go false false true p q r f = absurd (true-false refl f)
     go false false false p q r f = is_body_lem s record {
       good = stand-all s (ltb-false (other_in s) (length s) r);
       some = let n = eqb-false (length s) 0 p in omega arith;

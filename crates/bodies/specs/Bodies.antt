@@ -1,11 +1,11 @@
 -- Bytes that are to be the body of a line.
-use Rattle.std.specs.Prelude.{◌+◌, ℕ, [], ◌∷◌, List, ◌&&◌, Bool, cond, eqb, leb, ltb, length}
+use Rattle.std.specs.Prelude.{Option, Some, None, ◌+◌, ℕ, [], ◌∷◌, List, ◌&&◌, Bool, cond, eqb, leb, ltb, length}
 use Rattle.digits.specs.Pick.{pick}
 use Rattle.line.specs.Line.{body_byte, body_bytes}
 use Rattle.frame.specs.declared.Written.{Written}
 use Rattle.frame.specs.Written.{refused, wrote}
 use Rattle.bodies.specs.declared.Why.{Why}
-use Rattle.bodies.specs.declared.Why.TheVariants.{Empty, Long, Nothing, Other}
+use Rattle.bodies.specs.declared.Why.TheVariants.{Empty, Long, Other}
 
 -- A body has 1 to 76 bytes, each of which may stand in a body.
 unfoldable pub is_body : List ℕ → Bool
@@ -20,9 +20,9 @@ unfoldable pub other_in : List ℕ → ℕ
 other_in [] = 0
 other_in (b ∷ s) = cond (body_byte b) (other_in s + 1) 0
 
--- The first reason why bytes are no body.
-unfoldable pub why_of : List ℕ → Why
+-- The first reason why bytes are no body; none where they are one.
+unfoldable pub why_of : List ℕ → Option Why
 why_of s =
-    pick (eqb (length s) 0) Empty
-    (pick (ltb 76 (length s)) Long
-    (pick (ltb (other_in s) (length s)) (Other (other_in s)) Nothing))
+    pick (eqb (length s) 0) (Some Empty)
+    (pick (ltb 76 (length s)) (Some Long)
+    (pick (ltb (other_in s) (length s)) (Some (Other (other_in s))) None))

@@ -3,7 +3,7 @@
 
 ghost use Rattle.std.specs.Prelude.{◌≡◌};
 ghost use Rattle.frame.specs.Written.{Writes};
-ghost use Rattle.bodies.specs.Bodies.{body_fault, is_body, other_in, why_of};
+ghost use Rattle.bodies.specs.Bodies.{body_fault, is_body, why_of};
 
 use frame::Written;
 
@@ -38,45 +38,26 @@ pub fn write(body: &[u8], out: &mut [u8]) -> Written
     frame::finish(out, body, body.len(), fault)
 }
 
-// How many bytes of `s` stand before the first that may not stand in a body; all where each may.
-fn other_in(s: &[u8]) -> usize
-    ensures { result ≡ other_in s.now }
-{
-    let mut i: usize = 0;
-    while i < s.len() {
-        if !is_body(&s[i..i + 1]) {
-            return i;
-        }
-        i += 1;
-    }
-    i
-}
-
 // Why bytes are no body: there are none, there are too many, or one of them, at its place counted from 0, may not stand in a
-// body; nothing where they are a body.
-#[derive(Clone, Copy)]
+// body.
+#[derive(Clone, Copy, PartialEq, Eq, Debug)]
 pub enum Why {
-    Nothing,
     Empty,
     Long,
     Other(usize),
 }
 
-// The first reason why `s` is no body.
+// The first reason why `s` is no body; none where it is one.
 //
 //     PIRTR,1,*030    the byte at place 8 may not stand in a body
-pub fn reason(s: &[u8]) -> Why
+pub fn reason(s: &[u8]) -> Option<Why>
     ensures { result ≡ why_of s.now }
 {
-    if s.len() == 0 {
-        return Why::Empty;
+    if s.is_empty() {
+        return Some(Why::Empty);
     }
     if 76 < s.len() {
-        return Why::Long;
+        return Some(Why::Long);
     }
-    let at = other_in(s);
-    if at < s.len() {
-        return Why::Other(at);
-    }
-    Why::Nothing
+    s.iter().position(|&b| !line::may_stand(b)).map(Why::Other)
 }

@@ -4,7 +4,8 @@ use Prim.Native.Nat.{◌+◌, ◌*◌, ℕ}
 use mathlib.Core.Path.{◌∙◌, ◌≡◌, refl, sym}
 use mathlib.Core.Bool.{◌&&◌, ◌||◌, Bool, cond, false, not, true, true≢false}
 use mathlib.Core.List.{[], ◌∷◌, List}
-use mathlib.Core.Option.{bind, none, Option, some}
+use Rattle.std.specs.Prelude.{None, Option, Some}
+use Rattle.digits.specs.Bind.{bind}
 use native.Mathlib.Omega.{arith}
 use borrow.Author.Tests.{eqb-false, eqb-true}
 use lib.Dec.{eqb}
@@ -32,10 +33,10 @@ empty (b ∷ f) e = let z = eqb-true (length (b ∷ f)) 0 e in let i : ⊥ = ome
 -- Half a position.
 lettered-there : (plus minus u : List ℕ) (o : Option ℕ) → (lettered_of plus minus u o).there ≡ true
 unfolding lettered_of
-lettered-there plus minus u none = refl
-lettered-there plus minus u (some v) = go (same u plus || same u minus)
+lettered-there plus minus u None = refl
+lettered-there plus minus u (Some v) = go (same u plus || same u minus)
   where
-    go : (b : Bool) → (pick b (got_int_of (some (signed (same u minus) v))) (wrong_int 2 true)).there ≡ true
+    go : (b : Bool) → (pick b (got_int_of (Some (signed (same u minus) v))) (wrong_int 2 true)).there ≡ true
     go true = refl
     go false = refl
 
@@ -91,10 +92,10 @@ position-none lat ns lon ew w t =
 date-there : (a b c : ℕ) (od om oy : Option ℕ) → (a ≡ 0 → ⊥) → (b ≡ 0 → ⊥) → (c ≡ 0 → ⊥) → (date_at a b c od om oy).wrong ≡ 0
     → (date_at a b c od om oy).there ≡ true
 unfolding date_at
-date-there a b c none om oy x y z w = absurd (x w)
-date-there a b c (some d) none oy x y z w = absurd (y w)
-date-there a b c (some d) (some m) none x y z w = absurd (z w)
-date-there a b c (some d) (some m) (some n) x y z w = go (is_date d m n) w
+date-there a b c None om oy x y z w = absurd (x w)
+date-there a b c (Some d) None oy x y z w = absurd (y w)
+date-there a b c (Some d) (Some m) None x y z w = absurd (z w)
+date-there a b c (Some d) (Some m) (Some n) x y z w = go (is_date d m n) w
   where
     go : (t : Bool) → (pick t (the_date d m n) (no_date c)).wrong ≡ 0 → (pick t (the_date d m n) (no_date c)).there ≡ true
     go true i = refl
@@ -122,12 +123,12 @@ date-none d m y = go (eqb (length d) 0) (eqb (length m) 0) (eqb (length y) 0) re
 -- A zone of two fields: both.
 zone-there : (n : ℕ) (negative : Bool) (oh om : Option ℕ) → (zone_at n negative oh om).there ≡ true
 unfolding zone_at
-zone-there n negative none om = refl
-zone-there n negative (some h) om = go (bind om λ m. zone_of negative (h * 60 + m))
+zone-there n negative None om = refl
+zone-there n negative (Some h) om = go (bind om λ m. zone_of negative (h * 60 + m))
   where
     go : (o : Option ℤ) → (got_zone_at n o).there ≡ true
-    go none = refl
-    go (some z) = refl
+    go None = refl
+    go (Some z) = refl
 
 pub zone-none : (h m : List ℕ) → (zone_two h m).wrong ≡ 0 → (zone_two h m).there ≡ false → (h ≡ []) × (m ≡ [])
 unfolding zone_two

@@ -4,16 +4,13 @@ use Prim.Native.Nat.{ℕ, ◌+◌, ◌%◌}
 use mathlib.Core.Path.{◌≡◌, refl, sym, ◌∙◌, ap}
 use mathlib.Core.List.{List}
 use mathlib.Core.Bool.{Bool}
-use mathlib.Core.Option.{Option, none, some}
+use Rattle.std.specs.Prelude.{Option, None, Some}
 use lib.ListN.{drop, set}
 use lib.Seq.{sets}
 use denote.Ref.{Bor}
 use Rattle.digits.specs.Hex.{hex_digit, hex_of}
 use Rattle.digits.specs.Same.{same}
-use Rattle.digits.specs.Decimal.{digits_of, find_in}
-use Rattle.digits.specs.Means.{num}
-use Rattle.digits.specs.declared.Num.{Num}
-use Rattle.digits.specs.declared.Num.TheVariants.{Is, Bad}
+use Rattle.digits.specs.Decimal.{digits_from, digits_of, find_in}
 use Rattle.line.specs.Line.{line_refusal}
 use Rattle.line.specs.Ends.{ends_in, passing}
 use Rattle.lines.specs.Cut.{line_width}
@@ -21,6 +18,8 @@ use Rattle.address.specs.declared.Address.{Address}
 use Rattle.address.specs.Address.{address_of}
 use Rattle.fields.specs.Places.{Placed, field_in, place_in}
 use Rattle.fields.specs.Part.{PartAt}
+use Rattle.fields.specs.Parts.{parts_of}
+use Rattle.fields.specs.declared.Fields.{Fields}
 use Rattle.fields.specs.FieldN.{address_refusal, field_at}
 use Rattle.fields.specs.declared.Field.{Field}
 use Rattle.finder.specs.declared.Fed.{Fed}
@@ -52,20 +51,6 @@ part l at bytes r s p q = record {
   bytes = equation p.holds q.holds;
 }
 
--- Two answers of one meaning, a number or none.
-abbrev num_of : Option ℕ → Num
-num_of (some n) = Is n
-num_of none = Bad
-
-num-one : (r s : Num) → num r ≡ num s → r ≡ s
-num-one (Is m) (Is n) e = ap num_of e
-num-one (Is m) Bad e = ap num_of e
-num-one Bad (Is n) e = ap num_of e
-num-one Bad Bad e = refl
-
-pub read : {x : Option ℕ} (r s : Num) → num r ≡ x → num s ≡ x → r ≡ s
-read r s e f = num-one r s (equation e f)
-
 -- digits
 pub is-hex : (b : ℕ) (r s : Bool) → r ≡ hex_digit b → s ≡ hex_digit b → r ≡ s
 is-hex b r s = equation
@@ -79,8 +64,11 @@ same_bytes a b r s = equation
 pub find : (l : List ℕ) (b r s : ℕ) → r ≡ find_in b l → s ≡ find_in b l → r ≡ s
 find l b r s = equation
 
-pub digits : (l : List ℕ) (lo hi : ℕ) (r s : Num) → num r ≡ digits_of lo hi l → num s ≡ digits_of lo hi l → r ≡ s
-digits l lo hi = read
+pub decimal : (l : List ℕ) (r s : Option ℕ) → r ≡ digits_from 0 l → s ≡ digits_from 0 l → r ≡ s
+decimal l r s = equation
+
+pub digits : (l : List ℕ) (lo hi : ℕ) (r s : Option ℕ) → r ≡ digits_of lo hi l → s ≡ digits_of lo hi l → r ≡ s
+digits l lo hi r s = equation
 
 -- line, lines
 pub line-refusal : (l : List ℕ) (r s : ℕ) → r ≡ line_refusal l → s ≡ line_refusal l → r ≡ s
@@ -106,6 +94,10 @@ places l p r s left other d e = (equation d.fields e.fields, equation d.ends e.e
 pub field_in_lem : (l : Bor (List ℕ)) (p : List ℕ) (k : ℕ) (r s : Bor (List ℕ))
     → PartAt l (place_in p k l.now) (field_in p k l.now) r → PartAt l (place_in p k l.now) (field_in p k l.now) s → SamePart r s
 field_in_lem l p k r s = part l _ _ r s
+
+pub fields-at : (f : Fields) (k : ℕ) (r s : Bor (List ℕ)) → PartAt f.body (place_in f.ends.now k f.body.now) (parts_of f k) r
+    → PartAt f.body (place_in f.ends.now k f.body.now) (parts_of f k) s → SamePart r s
+fields-at f k r s = part f.body _ _ r s
 
 pub address-refusal : (l : List ℕ) (r s : ℕ) → r ≡ address_refusal l → s ≡ address_refusal l → r ≡ s
 address-refusal l r s = equation

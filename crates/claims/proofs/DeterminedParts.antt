@@ -1,24 +1,24 @@
 -- Parts of texts and of signed values, the group writer's order of tests and the step: any two results that a contract permits are equal.
-use Prim.Native.Nat.{◌%◌, ◌+◌, ◌/◌, min, ℕ}
+use Prim.Native.Nat.{◌%◌, ◌-◌, ◌/◌, ℕ}
+use lib.Dec.{ltb}
+use lib.ListN.{length}
 use mathlib.Core.Path.{◌≡◌}
 use mathlib.Core.Bool.{Bool}
 use mathlib.Core.List.{[], ◌∷◌, List}
 use lib.IntN.{nat_abs, ℤ}
-use Rattle.digits.specs.Means.{num}
 use Rattle.digits.specs.Pairs.{pair_at}
 use Rattle.digits.specs.Same.{same}
 use Rattle.digits.specs.Sign.{signed}
-use Rattle.digits.specs.declared.Num.{Num}
 use Rattle.form_number.specs.Number.{below_of}
 use Rattle.receiver.specs.Command.{Does, outcome_of}
 use Rattle.receiver.specs.declared.Done.{Done}
 use Rattle.receiver.specs.declared.Settings.{Settings}
 use Rattle.claims.proofs.Commands.{one-command}
-use Rattle.claims.proofs.Determined.{One, one, read}
+use Rattle.claims.proofs.Determined.{One, one}
 
 -- digits
-pub pair-at : (f : List ℕ) (k : ℕ) (r s : Num) → num r ≡ pair_at k f → num s ≡ pair_at k f → r ≡ s
-pair-at f k = read
+pub pair-at : (f : List ℕ) (k : ℕ) → One (pair_at k f)
+pair-at f k = one
 
 pub sign-held : (v : ℕ) (minus : Bool) → One (signed minus v)
 sign-held v minus = one
@@ -27,8 +27,8 @@ sign-held v minus = one
 pub unit-only : (u : List ℕ) (b : ℕ) → One (same u (b ∷ []))
 unit-only u b = one
 
-pub number-less : (f : List ℕ) (limit : ℕ) (r s : Num) → num r ≡ below_of limit f → num s ≡ below_of limit f → r ≡ s
-number-less f limit = read
+pub number-less : (f : List ℕ) (limit : ℕ) → One (below_of limit f)
+number-less f limit = one
 
 -- A zone's hours and minutes, and the degrees and minutes of an angle.
 pub split-hours : (z : ℤ) → One (nat_abs z / 60)
@@ -48,6 +48,6 @@ pub step : (s : Settings) (arrival : ℕ) (line out : List ℕ) (a b : Done) (l 
     → Does s (outcome_of s arrival line) out b m → (a.written ≡ b.written) × ((a.settings ≡ b.settings) × (l ≡ m))
 step s arrival line out = one-command s (outcome_of s arrival line) out
 
--- exhibits_walks
-pub walk-sum : (a b : ℕ) → One (min (a + b) 18446744073709551615)
-walk-sum a b = one
+-- turns
+pub is-full : (out : List ℕ) (place : ℕ) (room : ℕ) → One (ltb (length out - place) room)
+is-full out place room = one

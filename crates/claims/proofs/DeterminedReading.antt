@@ -7,8 +7,7 @@ use mathlib.Core.Bool.{Bool}
 use Rattle.form_position.specs.Angle.{position_form, variation_form}
 use Rattle.form.specs.Got.{got_of, maybe_int_of, maybe_of, within_of}
 use Rattle.form_number.specs.Fixed.{exact_form, fixed_form, fixed_of}
-use Rattle.digits.specs.declared.Num.{Num}
-use Rattle.digits.specs.Means.{num}
+use Rattle.std.specs.Prelude.{Option}
 use Rattle.form.specs.Units.{empty_wrong, unit_wrong}
 use Rattle.form_letter.specs.Letters.{letter_form, letter_of}
 use Rattle.form_number.specs.Number.{below_form, below_of, height_form, height_of, number_form, number_of}
@@ -18,7 +17,8 @@ use Rattle.form_time.specs.Time.{time_form, time_of}
 use Rattle.form_date.specs.Zone.{zone_four, zone_four_form, zone_two}
 use Rattle.form_mask.specs.Masks.{hex_digits_of, is_port_mask, port_mask_form, satellites_form, whole_form}
 use Rattle.form_mask.specs.Rates.{code_form, rate_form}
-use Rattle.fields.specs.Places.{field_in, fields_by}
+use Rattle.fields.specs.declared.Fields.{Fields}
+use Rattle.fields.specs.Parts.{parts_of}
 use Rattle.address.specs.declared.Talker.{Talker}
 use lib.IntN.{ℤ}
 use Rattle.numbers.specs.Told.{Answer}
@@ -49,11 +49,11 @@ use Rattle.form.specs.declared.got.GotInt.{GotInt}
 use Rattle.form_position.specs.declared.Position.{Position}
 use Rattle.form_date.specs.declared.dates.GotDate.{GotDate}
 use Rattle.host.specs.Answer.{single_line}
-use Rattle.claims.proofs.Determined.{One, one, read}
+use Rattle.claims.proofs.Determined.{One, one}
 
 -- forms
-pub got-within : (n : Num) (lo : ℕ) (hi : ℕ) (r s : Num) → num r ≡ within_of lo hi (num n) → num s ≡ within_of lo hi (num n) → r ≡ s
-got-within n lo hi = read
+pub got-within : (n : Option ℕ) (lo : ℕ) (hi : ℕ) → One (within_of lo hi n)
+got-within n lo hi = one
 
 pub angle-position : (lat ns lon : List ℕ) (ew : List ℕ) → One (position_form lat ns lon ew)
 angle-position lat ns lon ew = one
@@ -67,10 +67,10 @@ fixed f w lo hi = one
 pub fixed-exact : (f : List ℕ) (w : ℕ) (lo : ℕ) (hi : ℕ) → One (got_of (fixed_of w lo hi f))
 fixed-exact f w lo hi = one
 
-pub got-told : (n : Num) → One (got_of (num n))
+pub got-told : (n : Option ℕ) → One (got_of n)
 got-told n = one
 
-pub got-maybe : (f : List ℕ) (n : Num) → One (maybe_of f (num n))
+pub got-maybe : (f : List ℕ) (n : Option ℕ) → One (maybe_of f n)
 got-maybe f n = one
 
 pub letters-letter : (f : List ℕ) (set : List ℕ) → One (got_of (letter_of set f))
@@ -111,8 +111,8 @@ pub zone-four : (f : List ℕ) → One (maybe_int_of f (zone_four f))
 zone-four f = one
 
 -- masks
-pub mask-hex-digits : (f : List ℕ) (lo : ℕ) (hi : ℕ) (r s : Num) → num r ≡ hex_digits_of lo hi f → num s ≡ hex_digits_of lo hi f → r ≡ s
-mask-hex-digits f lo hi = read
+pub mask-hex-digits : (f : List ℕ) (lo : ℕ) (hi : ℕ) → One (hex_digits_of lo hi f)
+mask-hex-digits f lo hi = one
 
 pub mask-satellites : (f : List ℕ) (width : ℕ) → One (satellites_form width f)
 mask-satellites f width = one
@@ -179,67 +179,6 @@ pub blank-gsv : One blank_gsv
 blank-gsv = one
 
 -- kinds
-pub time-in : (s : List ℕ) (p : List ℕ) (k : ℕ) → One (time_form (field_in p k s))
-time-in s p k = one
-
-pub number_in : (s : List ℕ) (p : List ℕ) (k : ℕ) → One (number_form (field_in p k s))
-number_in s p k = one
-
-pub below_in : (s : List ℕ) (p : List ℕ) (k : ℕ) (limit : ℕ) → One (below_form limit (field_in p k s))
-below_in s p k limit = one
-
-pub height-in : (s : List ℕ) (p : List ℕ) (k : ℕ) → One (height_form (field_in p k s))
-height-in s p k = one
-
-pub fixed_in : (s : List ℕ) (p : List ℕ) (k : ℕ) (w : ℕ) (lo : ℕ) (hi : ℕ) → One (fixed_form w lo hi (field_in p k s))
-fixed_in s p k w lo hi = one
-
-pub exact-in : (s : List ℕ) (p : List ℕ) (k : ℕ) (w : ℕ) (lo : ℕ) (hi : ℕ) → One (exact_form w lo hi (field_in p k s))
-exact-in s p k w lo hi = one
-
-pub position_in : (s : List ℕ) (p : List ℕ) (k1 : ℕ) (k2 : ℕ) (k3 : ℕ) (k4 : ℕ)
-    → One (position_form (field_in p k1 s) (field_in p k2 s) (field_in p k3 s) (field_in p k4 s))
-position_in s p k1 k2 k3 k4 = one
-
-pub variation-in : (s : List ℕ) (p : List ℕ) (k1 : ℕ) (k2 : ℕ) → One (variation_form (field_in p k1 s) (field_in p k2 s))
-variation-in s p k1 k2 = one
-
-pub six-in : (s : List ℕ) (p : List ℕ) (k : ℕ) → One (date_six (field_in p k s))
-six-in s p k = one
-
-pub three-in : (s : List ℕ) (p : List ℕ) (k1 : ℕ) (k2 : ℕ) (k3 : ℕ) → One (date_three (field_in p k1 s) (field_in p k2 s) (field_in p k3 s))
-three-in s p k1 k2 k3 = one
-
-pub zone-in : (s : List ℕ) (p : List ℕ) (k1 : ℕ) (k2 : ℕ) → One (zone_two (field_in p k1 s) (field_in p k2 s))
-zone-in s p k1 k2 = one
-
-pub four-in : (s : List ℕ) (p : List ℕ) (k : ℕ) → One (zone_four_form (field_in p k s))
-four-in s p k = one
-
-pub satellites-in : (s : List ℕ) (p : List ℕ) (k : ℕ) (width : ℕ) → One (satellites_form width (field_in p k s))
-satellites-in s p k width = one
-
-pub whole_in : (s : List ℕ) (p : List ℕ) (k : ℕ) (width : ℕ) → One (whole_form width (field_in p k s))
-whole_in s p k width = one
-
-pub port-mask-in : (s : List ℕ) (p : List ℕ) (k : ℕ) → One (port_mask_form (field_in p k s))
-port-mask-in s p k = one
-
-pub rate-in : (s : List ℕ) (p : List ℕ) (k : ℕ) → One (rate_form (field_in p k s))
-rate-in s p k = one
-
-pub code_in : (s : List ℕ) (p : List ℕ) (k : ℕ) → One (code_form (field_in p k s))
-code_in s p k = one
-
-pub letter-in : (s : List ℕ) (p : List ℕ) (k : ℕ) (set : List ℕ) → One (letter_form set (field_in p k s))
-letter-in s p k set = one
-
-pub unit-in : (s : List ℕ) (p : List ℕ) (k : ℕ) (there : Bool) (b : ℕ) → One (unit_wrong (field_in p k s) there b)
-unit-in s p k there b = one
-
-pub empty-in : (s : List ℕ) (p : List ℕ) (k : ℕ) → One (empty_wrong (field_in p k s))
-empty-in s p k = one
-
 -- A reader of a kind tells and leaves the numbers as one definition says.
 abbrev OneAnswer : Answer → Type 0
 OneAnswer a = One a.0 × One a.1
@@ -247,50 +186,50 @@ OneAnswer a = One a.0 × One a.1
 answer : (a : Answer) → OneAnswer a
 answer a = (one, one)
 
-pub read-gga : (out : List ℤ) (t : Talker) (n : ℕ) (s p : List ℕ) → OneAnswer (gga_told out t n (fields_by p s))
-read-gga out t n s p = answer _
+pub read-gga : (out : List ℤ) (t : Talker) (f : Fields) → OneAnswer (gga_told out t f.count (parts_of f))
+read-gga out t f = answer _
 
-pub read-gll : (out : List ℤ) (t : Talker) (n : ℕ) (s p : List ℕ) → OneAnswer (gll_told out t n (fields_by p s))
-read-gll out t n s p = answer _
+pub read-gll : (out : List ℤ) (t : Talker) (f : Fields) → OneAnswer (gll_told out t f.count (parts_of f))
+read-gll out t f = answer _
 
-pub read-rmc : (out : List ℤ) (t : Talker) (n : ℕ) (s p : List ℕ) → OneAnswer (rmc_told out t n (fields_by p s))
-read-rmc out t n s p = answer _
+pub read-rmc : (out : List ℤ) (t : Talker) (f : Fields) → OneAnswer (rmc_told out t f.count (parts_of f))
+read-rmc out t f = answer _
 
-pub read-vtg : (out : List ℤ) (t : Talker) (n : ℕ) (s p : List ℕ) → OneAnswer (vtg_told out t n (fields_by p s))
-read-vtg out t n s p = answer _
+pub read-vtg : (out : List ℤ) (t : Talker) (f : Fields) → OneAnswer (vtg_told out t f.count (parts_of f))
+read-vtg out t f = answer _
 
-pub read-zda : (out : List ℤ) (t : Talker) (n : ℕ) (s p : List ℕ) → OneAnswer (zda_told out t n (fields_by p s))
-read-zda out t n s p = answer _
+pub read-zda : (out : List ℤ) (t : Talker) (f : Fields) → OneAnswer (zda_told out t f.count (parts_of f))
+read-zda out t f = answer _
 
-pub read-gsa : (out : List ℤ) (t : Talker) (n : ℕ) (s p : List ℕ) → OneAnswer (gsa_told out t n (fields_by p s))
-read-gsa out t n s p = answer _
+pub read-gsa : (out : List ℤ) (t : Talker) (f : Fields) → OneAnswer (gsa_told out t f.count (parts_of f))
+read-gsa out t f = answer _
 
-pub read-gsv : (out : List ℤ) (t : Talker) (n : ℕ) (s p : List ℕ) → OneAnswer (gsv_told out t n (fields_by p s))
-read-gsv out t n s p = answer _
+pub read-gsv : (out : List ℤ) (t : Talker) (f : Fields) → OneAnswer (gsv_told out t f.count (parts_of f))
+read-gsv out t f = answer _
 
-pub read-pirea : (out : List ℤ) (n : ℕ) (s p : List ℕ) → OneAnswer (pirea_told out n (fields_by p s))
-read-pirea out n s p = answer _
+pub read-pirea : (out : List ℤ) (f : Fields) → OneAnswer (pirea_told out f.count (parts_of f))
+read-pirea out f = answer _
 
-pub read-pirer : (out : List ℤ) (n : ℕ) (s p : List ℕ) → OneAnswer (pirer_told out n (fields_by p s))
-read-pirer out n s p = answer _
+pub read-pirer : (out : List ℤ) (f : Fields) → OneAnswer (pirer_told out f.count (parts_of f))
+read-pirer out f = answer _
 
-pub read-pirpa : (out : List ℤ) (n : ℕ) (s p : List ℕ) → OneAnswer (pirpa_told out n (fields_by p s))
-read-pirpa out n s p = answer _
+pub read-pirpa : (out : List ℤ) (f : Fields) → OneAnswer (pirpa_told out f.count (parts_of f))
+read-pirpa out f = answer _
 
-pub read-pirpr : (out : List ℤ) (n : ℕ) (s p : List ℕ) → OneAnswer (pirpr_told out n (fields_by p s))
-read-pirpr out n s p = answer _
+pub read-pirpr : (out : List ℤ) (f : Fields) → OneAnswer (pirpr_told out f.count (parts_of f))
+read-pirpr out f = answer _
 
-pub read-pirsa : (out : List ℤ) (n : ℕ) (s p : List ℕ) → OneAnswer (pirsa_told out n (fields_by p s))
-read-pirsa out n s p = answer _
+pub read-pirsa : (out : List ℤ) (f : Fields) → OneAnswer (pirsa_told out f.count (parts_of f))
+read-pirsa out f = answer _
 
-pub read-pirsr : (out : List ℤ) (n : ℕ) (s p : List ℕ) → OneAnswer (pirsr_told out n (fields_by p s))
-read-pirsr out n s p = answer _
+pub read-pirsr : (out : List ℤ) (f : Fields) → OneAnswer (pirsr_told out f.count (parts_of f))
+read-pirsr out f = answer _
 
-pub read-pirta : (out : List ℤ) (n : ℕ) (s p : List ℕ) → OneAnswer (pirta_told out n (fields_by p s))
-read-pirta out n s p = answer _
+pub read-pirta : (out : List ℤ) (f : Fields) → OneAnswer (pirta_told out f.count (parts_of f))
+read-pirta out f = answer _
 
-pub read-pirtr : (out : List ℤ) (n : ℕ) (s p : List ℕ) → OneAnswer (pirtr_told out n (fields_by p s))
-read-pirtr out n s p = answer _
+pub read-pirtr : (out : List ℤ) (f : Fields) → OneAnswer (pirtr_told out f.count (parts_of f))
+read-pirtr out f = answer _
 
 -- host
 pub host-refusal : (line : List ℕ)

@@ -1,15 +1,11 @@
 -- Values and fields in words, and lists of exhibits: any two results that a contract permits are equal.
 use Prim.Native.Nat.{ℕ}
-use mathlib.Core.Path.{◌∙◌, ◌≡◌, ap, refl, sym}
-use mathlib.Core.Option.{none, Option, some}
 use mathlib.Core.List.{List}
 use lib.IntN.{ℤ}
 use Rattle.phrases.specs.Phrases.{measure_text}
 use Rattle.words.specs.Words.{kind_text, refusal_text, words_text}
-use Rattle.exhibits_lists.specs.declared.Parsed.{Parsed}
-use Rattle.exhibits_lists.specs.declared.Parsed.TheVariants.{Bad, Is}
 use Rattle.exhibits_lists.specs.declared.Row.{Row}
-use Rattle.exhibits_lists.specs.Lists.{asked_of, body_of, number, number_of, row_of}
+use Rattle.exhibits_lists.specs.Lists.{asked_of, body_of, number_of, row_of}
 use Rattle.claims.proofs.Determined.{One, one}
 use Rattle.claims.proofs.DeterminedWriting.{one-put, OnePut}
 
@@ -27,18 +23,8 @@ pub put-refusal : (d : List ℕ) (at n : ℕ) → OnePut d at (refusal_text n)
 put-refusal d at n = one-put d at (refusal_text n)
 
 -- lists
-abbrev parsed-of : Option ℕ → Parsed
-parsed-of (some v) = Is v
-parsed-of none = Bad
-
-parsed-one : (r s : Parsed) → number r ≡ number s → r ≡ s
-parsed-one (Is m) (Is n) e = ap parsed-of e
-parsed-one (Is m) Bad e = ap parsed-of e
-parsed-one Bad (Is n) e = ap parsed-of e
-parsed-one Bad Bad e = refl
-
-pub parse : (s : List ℕ) (r q : Parsed) → number r ≡ number_of s → number q ≡ number_of s → r ≡ q
-parse s r q e f = parsed-one r q (e ∙ sym f)
+pub parse : (s : List ℕ) → One (number_of s)
+parse s = one
 
 pub read-row : (s : List ℕ) → One (row_of (body_of s))
 read-row s = one

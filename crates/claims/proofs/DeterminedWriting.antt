@@ -3,7 +3,7 @@
 use Prim.Native.Nat.{ℕ}
 use mathlib.Core.Path.{◌∙◌, ◌≡◌, ap, sym}
 use mathlib.Core.List.{[], ◌++◌, ◌∷◌, List}
-use mathlib.Core.Bool.{Bool}
+use mathlib.Core.Bool.{Bool, true}
 use lib.IntN.{nat_abs, ℤ}
 use lib.ListN.{take}
 use Rattle.address.specs.declared.Talker.{Talker}
@@ -14,14 +14,16 @@ use Rattle.form_date.specs.Zone.{four_text}
 use Rattle.form_mask.specs.Masks.{port_wrong, print_hex}
 use Rattle.form_date.specs.declared.Date.{Date}
 use Rattle.form_position.specs.declared.Place.{Place}
+use Rattle.form_number.specs.declared.Number.{Number}
 use Rattle.form_number.specs.declared.Signed.{Signed}
 use Rattle.form_date.specs.declared.Zone.{Zone}
 use Rattle.put.specs.Wrote.{Held, held, Puts, PutsFields}
-use Rattle.form.specs.Values.{alike_wrong, if_there, outside, range_wrong, signed_wrong}
+use Rattle.form.specs.declared.Maybe.{Maybe}
+use Rattle.form.specs.Values.{alike_wrong, if_there, maybe_text, outside, range_wrong, signed_wrong}
 use Rattle.form_letter.specs.Letters.{letter_field, letter_wrong}
 use Rattle.form_position.specs.Values.{ew_field, lat_field, lon_field, ns_field, place_wrong, variation_field, variation_side}
 use Rattle.form_date.specs.Values.{day_field, hours_field, minutes_field, month_field, six_field, six_wrong, three_wrong, year_field}
-use Rattle.form_number.specs.Values.{height_text}
+use Rattle.form_number.specs.Values.{height_field}
 use Rattle.frame.specs.declared.Written.{Written}
 use Rattle.frame.specs.Body.{talker_text}
 use Rattle.frame.specs.Written.{fault_at, refused, Writes}
@@ -75,7 +77,7 @@ halves r q e f p = (ap (λ (h : Held). h.place) p, ap (λ (h : Held). h.bytes) p
 pub one-put : (d : List ℕ) (at : ℕ) (text : List ℕ) → OnePut d at text
 one-put d at text r q e f p s = halves r q e f (p.is ∙ sym s.is)
 
-one-fields : (d : List ℕ) (at : ℕ) (fields : List (List ℕ)) → OneFields d at fields
+pub one-fields : (d : List ℕ) (at : ℕ) (fields : List (List ℕ)) → OneFields d at fields
 one-fields d at fields r q e f p s = halves r q e f (p.is ∙ sym s.is)
 
 -- One answer and one output.
@@ -117,12 +119,22 @@ body-write body out = one-writing (body_fault body) body out
 pub body-reason : (s : List ℕ) → One (why_of s)
 body-reason s = one
 
+-- what is sent of a value
+pub sent-maybe : (m : Maybe) → One m
+sent-maybe m = one
+
+pub sent-number : (v : ℕ) → One {A = Maybe} (record { there = true; value = v })
+sent-number v = one
+
+pub sent-thousandths : (n : Number) → One {A = Maybe} (record { there = n.there; value = n.value })
+sent-thousandths n = one
+
 -- ranges
 pub range-within : (v : ℕ) (lo : ℕ) (hi : ℕ) → One (outside lo hi v)
 range-within v lo hi = one
 
-pub range-maybe : (there : Bool) (v : ℕ) (lo : ℕ) (hi : ℕ) → One (range_wrong lo hi there v)
-range-maybe there v lo hi = one
+pub range-maybe : {T : Type 0} (sent : T → Maybe) (v : T) (lo : ℕ) (hi : ℕ) → One (range_wrong lo hi (sent v).there (sent v).value)
+range-maybe sent v lo hi = one
 
 pub range_size : (z : ℤ) → One (nat_abs z)
 range_size z = one
@@ -149,29 +161,29 @@ pub range-alike : (needed : Bool) (there : Bool) (wrong : ℕ) → One (alike_wr
 range-alike needed there wrong = one
 
 -- texts
-pub text-one : (d : List ℕ) (at : ℕ) (there : Bool) (v : ℕ) → OneFields d at (if_there there (print_fixed 1 v) ∷ [])
-text-one d at there v = one-fields d at (if_there there (print_fixed 1 v) ∷ [])
+pub text-one : {T : Type 0} (sent : T → Maybe) (d : List ℕ) (at : ℕ) (v : T) → OneFields d at (maybe_text (print_fixed 1) (sent v) ∷ [])
+text-one sent d at v = one-fields d at (maybe_text (print_fixed 1) (sent v) ∷ [])
 
-pub text-two : (d : List ℕ) (at : ℕ) (there : Bool) (v : ℕ) → OneFields d at (if_there there (print_fixed 2 v) ∷ [])
-text-two d at there v = one-fields d at (if_there there (print_fixed 2 v) ∷ [])
+pub text-two : {T : Type 0} (sent : T → Maybe) (d : List ℕ) (at : ℕ) (v : T) → OneFields d at (maybe_text (print_fixed 2) (sent v) ∷ [])
+text-two sent d at v = one-fields d at (maybe_text (print_fixed 2) (sent v) ∷ [])
 
-pub text-three : (d : List ℕ) (at : ℕ) (there : Bool) (v : ℕ) → OneFields d at (if_there there (print_fixed 3 v) ∷ [])
-text-three d at there v = one-fields d at (if_there there (print_fixed 3 v) ∷ [])
+pub text-three : {T : Type 0} (sent : T → Maybe) (d : List ℕ) (at : ℕ) (v : T) → OneFields d at (maybe_text (print_fixed 3) (sent v) ∷ [])
+text-three sent d at v = one-fields d at (maybe_text (print_fixed 3) (sent v) ∷ [])
 
-pub text-four : (d : List ℕ) (at : ℕ) (there : Bool) (v : ℕ) → OneFields d at (if_there there (print_fixed 4 v) ∷ [])
-text-four d at there v = one-fields d at (if_there there (print_fixed 4 v) ∷ [])
+pub text-four : {T : Type 0} (sent : T → Maybe) (d : List ℕ) (at : ℕ) (v : T) → OneFields d at (maybe_text (print_fixed 4) (sent v) ∷ [])
+text-four sent d at v = one-fields d at (maybe_text (print_fixed 4) (sent v) ∷ [])
 
-pub text-plain : (d : List ℕ) (at : ℕ) (there : Bool) (v : ℕ) → OneFields d at (if_there there (plain_text v) ∷ [])
-text-plain d at there v = one-fields d at (if_there there (plain_text v) ∷ [])
+pub text-plain : {T : Type 0} (sent : T → Maybe) (d : List ℕ) (at : ℕ) (v : T) → OneFields d at (maybe_text plain_text (sent v) ∷ [])
+text-plain sent d at v = one-fields d at (maybe_text plain_text (sent v) ∷ [])
 
-pub text-number : (d : List ℕ) (at : ℕ) (there : Bool) (v : ℕ) → OneFields d at (if_there there (number_text v) ∷ [])
-text-number d at there v = one-fields d at (if_there there (number_text v) ∷ [])
+pub text-number : {T : Type 0} (sent : T → Maybe) (d : List ℕ) (at : ℕ) (v : T) → OneFields d at (maybe_text number_text (sent v) ∷ [])
+text-number sent d at v = one-fields d at (maybe_text number_text (sent v) ∷ [])
 
-pub text-time : (d : List ℕ) (at : ℕ) (there : Bool) (v : ℕ) → OneFields d at (if_there there (clock_text v) ∷ [])
-text-time d at there v = one-fields d at (if_there there (clock_text v) ∷ [])
+pub text-time : {T : Type 0} (sent : T → Maybe) (d : List ℕ) (at : ℕ) (v : T) → OneFields d at (maybe_text clock_text (sent v) ∷ [])
+text-time sent d at v = one-fields d at (maybe_text clock_text (sent v) ∷ [])
 
-pub text-height : (d : List ℕ) (at : ℕ) (there : Bool) (z : ℤ) → OneFields d at (if_there there (height_text z) ∷ [])
-text-height d at there z = one-fields d at (if_there there (height_text z) ∷ [])
+pub text-height : (d : List ℕ) (at : ℕ) (z : Signed) → OneFields d at (height_field z ∷ [])
+text-height d at z = one-fields d at (height_field z ∷ [])
 
 pub text-unit : (d : List ℕ) (at : ℕ) (there : Bool) (b : ℕ) → OneFields d at (if_there there (b ∷ []) ∷ [])
 text-unit d at there b = one-fields d at (if_there there (b ∷ []) ∷ [])
@@ -197,17 +209,17 @@ text-date-three d at x = one-fields d at (day_field x ∷ month_field x ∷ year
 pub text-zone : (d : List ℕ) (at : ℕ) (z : Zone) → OneFields d at (hours_field z ∷ minutes_field z ∷ [])
 text-zone d at z = one-fields d at (hours_field z ∷ minutes_field z ∷ [])
 
-pub text-zone-four : (d : List ℕ) (at : ℕ) (there : Bool) (z : ℤ) → OneFields d at (if_there there (four_text z) ∷ [])
-text-zone-four d at there z = one-fields d at (if_there there (four_text z) ∷ [])
+pub text-zone-four : (d : List ℕ) (at : ℕ) (z : Zone) → OneFields d at (if_there z.there (four_text z.minutes) ∷ [])
+text-zone-four d at z = one-fields d at (if_there z.there (four_text z.minutes) ∷ [])
 
-pub text-hex-four : (d : List ℕ) (at : ℕ) (there : Bool) (v : ℕ) → OneFields d at (if_there there (print_hex 4 v) ∷ [])
-text-hex-four d at there v = one-fields d at (if_there there (print_hex 4 v) ∷ [])
+pub text-hex-four : {T : Type 0} (sent : T → Maybe) (d : List ℕ) (at : ℕ) (v : T) → OneFields d at (maybe_text (print_hex 4) (sent v) ∷ [])
+text-hex-four sent d at v = one-fields d at (maybe_text (print_hex 4) (sent v) ∷ [])
 
-pub text-hex-six : (d : List ℕ) (at : ℕ) (there : Bool) (v : ℕ) → OneFields d at (if_there there (print_hex 6 v) ∷ [])
-text-hex-six d at there v = one-fields d at (if_there there (print_hex 6 v) ∷ [])
+pub text-hex-six : {T : Type 0} (sent : T → Maybe) (d : List ℕ) (at : ℕ) (v : T) → OneFields d at (maybe_text (print_hex 6) (sent v) ∷ [])
+text-hex-six sent d at v = one-fields d at (maybe_text (print_hex 6) (sent v) ∷ [])
 
-pub text-hex-eight : (d : List ℕ) (at : ℕ) (there : Bool) (v : ℕ) → OneFields d at (if_there there (print_hex 8 v) ∷ [])
-text-hex-eight d at there v = one-fields d at (if_there there (print_hex 8 v) ∷ [])
+pub text-hex-eight : {T : Type 0} (sent : T → Maybe) (d : List ℕ) (at : ℕ) (v : T) → OneFields d at (maybe_text (print_hex 8) (sent v) ∷ [])
+text-hex-eight sent d at v = one-fields d at (maybe_text (print_hex 8) (sent v) ∷ [])
 
 -- frame
 pub seal-refuse : (n : ℕ) (line : ℕ) (field : ℕ) → One (refused n line field)

@@ -4,7 +4,7 @@ use Prim.Native.Nat.{ℕ, zero, suc, ◌/◌, ◌%◌, ◌^◌, ◌≤◌, ◌<�
 use mathlib.Core.Path.{◌≡◌, refl, ap, ◌∙◌}
 use mathlib.Core.List.{List, [], ◌∷◌, ◌++◌}
 use mathlib.Core.Bool.{Bool, true, false, cond}
-use mathlib.Core.Option.{some}
+use Rattle.std.specs.Prelude.{Some}
 use native.Mathlib.Omega.{arith}
 use native.Mathlib.Nat.{pow-suc, mod-eq_of_lt, zero-mul, zero-add}
 use lib.Dec.{ltb}
@@ -56,7 +56,7 @@ pub fewest : (n : ℕ) → n < 10 ^ 20 → Fewest n (decimal_text n)
 unfolding decimal_text
 fewest n h = within 19 n h
 
-pub reads-back : (n : ℕ) → n < 10 ^ 20 → digits_from 0 (decimal_text n) ≡ some n
+pub reads-back : (n : ℕ) → n < 10 ^ 20 → digits_from 0 (decimal_text n) ≡ Some n
 reads-back n h =
     let f = fewest n h in
     ap (digits_from 0) f.digits ∙ (digits-rt (suc f.more) n 0 ∙ rw (mod-eq_of_lt f.hold, zero-mul, zero-add))

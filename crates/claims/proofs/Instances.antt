@@ -5,7 +5,6 @@ use Prim.Native.Nat.{ℕ}
 use Prim.Native.String.{String}
 use mathlib.Core.Path.{◌∙◌, ◌≡◌, ap, refl}
 use mathlib.Core.List.{[], ◌++◌, ◌∷◌, List, map}
-use mathlib.Core.Option.{bind}
 use lib.Count.{ones, ones_in}
 use lib.IntN.{neg_ℤ, pos, ℤ}
 use lib.ListN.{drop, length, replicate}
@@ -151,7 +150,7 @@ unfolding same hex_digit hex_of hex_value none_of body_byte body_bytes xor_from 
     is_there is_mark gga_row gga_layout gll_row gll_layout gsa_row gsa_layout gsa_wrong gsa_fields is_blank first_of entry_at entry_from gsv_row
     gsv_layout entries_of gsv_with gsv_wrong rest_blank gsv_fault gsv_fields rmc_row rmc_layout vtg_row vtg_layout zda_row zda_layout pirpr_row
     pirpr_layout pirpa_row pirpa_layout pirtr_row pirtr_layout pirta_row pirta_layout pirsr_layout pirsa_layout pirer_row pirea_row pirea_layout
-    B.known_of B.address_at B.record_at refused_by gps_over told_of bind
+    B.known_of B.address_at B.record_at refused_by gps_over told_of
 instances-hold = record { accepted = refl; lines = refl; again = refl }
 
 -- P10 through the exported functions, at the numbers of the settings at start: the reply fits in 28 bytes and in no less, and the masks

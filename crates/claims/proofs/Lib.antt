@@ -2,11 +2,13 @@ pub mod Claims
 pub mod Forms
 pub mod Determined
 pub mod DeterminedReading
+pub mod PartsRead
 pub mod Rows
 pub mod Rewriting
 pub mod Writing
 pub mod Lengths
 pub mod DeterminedWriting
+pub mod DeterminedRecords
 pub mod DeterminedText
 pub mod Digits
 pub mod Listing

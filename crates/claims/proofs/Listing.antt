@@ -5,7 +5,6 @@ use Prim.Native.String.{String}
 use mathlib.Core.Path.{◌≡◌, refl}
 use mathlib.Core.List.{List}
 use mathlib.Core.Bool.{false}
-use mathlib.Core.Option.{bind}
 use Rattle.digits.specs.Ascii.{ascii}
 use Rattle.digits.specs.Decimal.{digits_from, digits_of, is_digit}
 use Rattle.digits.specs.Hex.{hex_digit, hex_of}
@@ -33,5 +32,5 @@ pub worked : (listed 1 "$GPGSV,5,5,17,77,71,048,53*43\r\n" ≡ ascii "1 GPGSV ok
 unfolding is_digit digits_from digits_of hex_digit hex_of same none_of body_byte body_bytes xor_from xor_of end_form edge_form line_form end_gives
     line_refusal
     look_up known_of comma_free address_of onto fields_of fixed_of maybe_of within_of read_by answer_by near_of first_of entry_at entry_from entries_of
-    gsv_row gsv_with gga_row read_body read_line bind digits_within decimal_text five_bytes address_text answer_text
+    gsv_row gsv_with gga_row read_body read_line digits_within decimal_text five_bytes address_text answer_text
 worked = (refl, (refl, refl))

@@ -4,7 +4,7 @@ use Prim.Native.String.{String}
 use mathlib.Core.Path.{◌∙◌, ◌≡◌, ap, refl}
 use mathlib.Core.List.{[], ◌∷◌, List}
 use mathlib.Core.Bool.{true}
-use mathlib.Core.Option.{bind, some}
+use Rattle.std.specs.Prelude.{Some}
 use native.Mathlib.Omega.{arith}
 use lib.IntN.{neg_ℤ, pos}
 use lib.Count.{ones, ones_step, ones_in}
@@ -85,15 +85,15 @@ rows =
     -- P4: satellite 5, three values missing
     ∷ group "$GPGSV,1,1,01,05,,,*7D\r\n" (whole Gp (record { number = 5; elevation = no_maybe; azimuth = no_maybe; signal = no_maybe } ∷ []))
     -- P5, P6: degrees and minutes are joined, then negated by the letter
-    ∷ latitude "5550.6111" "N" (got_int_of (some (pos 33506111)))
-    ∷ longitude "03732.2534" "W" (got_int_of (some (neg_ℤ (pos 22522534))))
+    ∷ latitude "5550.6111" "N" (got_int_of (Some (pos 33506111)))
+    ∷ longitude "03732.2534" "W" (got_int_of (Some (neg_ℤ (pos 22522534))))
     -- P7: 90 degrees south, and nothing beyond
-    ∷ latitude "9000.0000" "S" (got_int_of (some (neg_ℤ (pos 54000000))))
+    ∷ latitude "9000.0000" "S" (got_int_of (Some (neg_ℤ (pos 54000000))))
     ∷ latitude "9000.0001" "S" (wrong_int 1 true)
     -- P8: the sign of -00 hours covers the minutes; there is no minus zero
-    ∷ zone "-00" "30" (got_int_of (some (neg_ℤ (pos 30))))
+    ∷ zone "-00" "30" (got_int_of (Some (neg_ℤ (pos 30))))
     ∷ zone "-00" "00" (wrong_zone 2)
-    ∷ zone "-13" "59" (got_int_of (some (neg_ℤ (pos 839))))
+    ∷ zone "-13" "59" (got_int_of (Some (neg_ℤ (pos 839))))
     ∷ zone "14" "00" (wrong_zone 1)
     -- P9: 2000 was a leap year, 2023 was not
     ∷ date "290200" (the_date 29 2 2000)
@@ -157,7 +157,7 @@ ones-by (suc k) n = ones_step n ∙ ap (λ (x : ℕ). n % 2 + x) (ones-by k (n /
 pub rows-hold : AllHold rows
 unfolding rows same hex_digit hex_of none_of body_byte body_bytes xor_from xor_of end_form edge_form line_form end_gives line_refusal is_digit digits_from
     digits_of within_of joined_of angle_of latitude_of longitude_of lettered_of sided_of pair_at leap_year days_in is_date date_at full_year date_six
-    minus bare_of zone_of zone_at zone_two bind look_up known_of comma_free address_of onto fields_of fixed_of maybe_of before cut_rest cut_lines
+    minus bare_of zone_of zone_at zone_two look_up known_of comma_free address_of onto fields_of fixed_of maybe_of before cut_rest cut_lines
     read_from read_lines read_by answer_by fault_by fields_for near_of first_wrong first_of entry_at entry_from entries_of gsv_row gsv_with
     read_body read_line lines_for entries_at same_talker in_place follows numbered repeats gsv_rule rule ended group_of join_fields hex_from
     hex_digits_of print_hex satellites_of satellites_form is_port_mask empty_wrong outside range_wrong signed_wrong port_wrong pirsr_row pirsa_row

@@ -3,7 +3,7 @@ use Prim.Native.Nat.{ℕ, suc, ◌+◌, ◌-◌, ◌*◌, ◌^◌, ◌≤◌, �
 use mathlib.Core.Path.{◌≡◌}
 use mathlib.Core.List.{List, [], ◌∷◌}
 use mathlib.Core.Bool.{true, ◌&&◌}
-use mathlib.Core.Option.{some}
+use Rattle.std.specs.Prelude.{Some}
 use native.Mathlib.Omega.{arith}
 use native.Mathlib.Nat.{lt_of_lt_of_le, pow-le-pow_right, zero-add, add-zero}
 use lib.Dec.{leb, lit<}
@@ -19,7 +19,7 @@ pub digit-range : (b : ℕ) → is_digit b ≡ true → (48 ≤ b) × (b ≤ 57)
 unfolding is_digit
 digit-range b e = (leb-true 48 b (and_left _ _ e), leb-true b 57 (and_right (leb 48 b) _ e))
 
-from-lt : (s : List ℕ) (k acc v : ℕ) → acc < 10 ^ k → digits_from acc s ≡ some v → v < 10 ^ (k + length s)
+from-lt : (s : List ℕ) (k acc v : ℕ) → acc < 10 ^ k → digits_from acc s ≡ Some v → v < 10 ^ (k + length s)
 unfolding digits_from
 from-lt [] k acc v h e = let p : acc ≡ v = cc in rw (add-zero, ← p) h
 from-lt (b ∷ s) k acc v h e =
@@ -29,9 +29,13 @@ from-lt (b ∷ s) k acc v h e =
     let q : k + 1 + length s ≡ k + suc (length s) = omega arith in
     rw q at r
 
-module _ (lo hi : ℕ) (s : List ℕ) (v : ℕ) (e : digits_of lo hi s ≡ some v) where
+-- Nine digits are below a thousand million.
+pub nine-lt : (s : List ℕ) (v : ℕ) → length s ≤ 9 → digits_from 0 s ≡ Some v → v < 1000000000
+nine-lt s v h e = lt_of_lt_of_le (from-lt s 0 0 v (lit< tt) e) (pow-le-pow_right {n = 10} (lit< tt) {i = 0 + length s} {j = 9} (omega arith))
+
+module _ (lo hi : ℕ) (s : List ℕ) (v : ℕ) (e : digits_of lo hi s ≡ Some v) where
   -- Digits that were read stand within the counts, and give the value.
-  pub opened : ((leb lo (length s) && (leb (length s) hi && leb (length s) 9)) ≡ true) × (digits_from 0 s ≡ some v)
+  pub opened : ((leb lo (length s) && (leb (length s) hi && leb (length s) 9)) ≡ true) × (digits_from 0 s ≡ Some v)
   unfolding digits_of
   opened = through _ _ _ e
 

@@ -11,30 +11,26 @@ use native.Mathlib.Numerals.{add-one, sub-one}
 use lib.Dec.{lit<}
 use lib.ListN.{length, drop, get_or, drop_of_length-le, length-append}
 use lib.Seq.{drop-cons}
-use borrow.Author.Tests.{le-leb, lt-leb}
-use mathlib.Core.Option.{none, some}
+use borrow.Author.Tests.{le-leb}
+use Rattle.std.specs.Prelude.{None, Some}
 use Rattle.digits.specs.Decimal.{is_digit, digits_from, digits_of, print_fixed}
 use Rattle.digits.proofs.Powers.{sum-up}
 
--- eight digits leave room for one more
-pub room-lt : {i : ℕ} → i ≤ 8 → {acc : ℕ} → acc < 10 ^ i → acc < 100000000
+-- eighteen digits leave room for one more
+pub room-lt : {i : ℕ} → i ≤ 18 → {acc : ℕ} → acc < 10 ^ i → acc < 1000000000000000000
 room-lt {i} h {acc} k = omega (arith, pow-le-pow_right {n = 10} (lit< tt) h)
 
 -- the scan at a digit, and at another byte
 module _ (s : List ℕ) (i acc : ℕ) (h : i < length s) where
-  pub scan-on : 48 ≤ get_or s i 0 → get_or s i 0 ≤ 57 → digits_from acc (drop i s) ≡ digits_from (acc * 10 + (get_or s i 0 - 48)) (drop (i + 1) s)
-  unfolding digits_from is_digit
-  scan-on l u = rw (drop-cons s i 0 h, add-one, le-leb _ _ l, le-leb _ _ u)
+  pub scan-digit : is_digit (get_or s i 0) ≡ true → digits_from acc (drop i s) ≡ digits_from (acc * 10 + (get_or s i 0 - 48)) (drop (i + 1) s)
+  unfolding digits_from
+  scan-digit d = rw (drop-cons s i 0 h, add-one, d)
 
-  pub scan-low : get_or s i 0 < 48 → digits_from acc (drop i s) ≡ none
-  unfolding digits_from is_digit
-  scan-low l = rw (drop-cons s i 0 h, lt-leb _ _ l)
+  pub scan-other : is_digit (get_or s i 0) ≡ false → digits_from acc (drop i s) ≡ None
+  unfolding digits_from
+  scan-other d = rw (drop-cons s i 0 h, d)
 
-  pub scan-high : 57 < get_or s i 0 → digits_from acc (drop i s) ≡ none
-  unfolding digits_from is_digit
-  scan-high l = rw (drop-cons s i 0 h, le-leb 48 (get_or s i 0) (omega arith), lt-leb _ _ l)
-
-pub scan-end : (s : List ℕ) (i acc : ℕ) → length s ≤ i → digits_from acc (drop i s) ≡ some acc
+pub scan-end : (s : List ℕ) (i acc : ℕ) → length s ≤ i → digits_from acc (drop i s) ≡ Some acc
 unfolding digits_from is_digit
 scan-end s i acc h = rw (drop_of_length-le s h)
 
@@ -43,18 +39,18 @@ unfolding print_fixed
 length-fixed zero n = refl
 length-fixed (suc w) n = rw (length-append, length-fixed w (n / 10), add-one)
 
-digits-snoc : (s : List ℕ) (b acc v : ℕ) → digits_from acc s ≡ some v → digits_from acc (s ++ (b ∷ [])) ≡ digits_from v (b ∷ [])
+digits-snoc : (s : List ℕ) (b acc v : ℕ) → digits_from acc s ≡ Some v → digits_from acc (s ++ (b ∷ [])) ≡ digits_from v (b ∷ [])
 unfolding digits_from is_digit
 digits-snoc [] b acc v h = let e : acc ≡ v = cc in rw e
 digits-snoc (x ∷ s) b acc v h = go (is_digit x) h (digits-snoc s b (acc * 10 + (x - 48)) v)
   where
-    go : (t : Bool) → cond t (digits_from (acc * 10 + (x - 48)) s) none ≡ some v
-        → (digits_from (acc * 10 + (x - 48)) s ≡ some v → digits_from (acc * 10 + (x - 48)) (s ++ (b ∷ [])) ≡ digits_from v (b ∷ []))
-        → cond t (digits_from (acc * 10 + (x - 48)) (s ++ (b ∷ []))) none ≡ digits_from v (b ∷ [])
+    go : (t : Bool) → cond t (digits_from (acc * 10 + (x - 48)) s) None ≡ Some v
+        → (digits_from (acc * 10 + (x - 48)) s ≡ Some v → digits_from (acc * 10 + (x - 48)) (s ++ (b ∷ [])) ≡ digits_from v (b ∷ []))
+        → cond t (digits_from (acc * 10 + (x - 48)) (s ++ (b ∷ []))) None ≡ digits_from v (b ∷ [])
     go true e k = k e
     go false e k = cc
 
-pub digits-rt : (w n acc : ℕ) → digits_from acc (print_fixed w n) ≡ some (acc * 10 ^ w + n % 10 ^ w)
+pub digits-rt : (w n acc : ℕ) → digits_from acc (print_fixed w n) ≡ Some (acc * 10 ^ w + n % 10 ^ w)
 unfolding print_fixed digits_from is_digit
 digits-rt zero n acc = rw (mul-one, mod-one, add-zero)
 digits-rt (suc w) n acc =
@@ -62,7 +58,7 @@ digits-rt (suc w) n acc =
     ∙ rw (le-leb 48 (48 + n % 10) (omega arith), le-leb (48 + n % 10) 57 (omega arith), add-sub_cancel_left 48 (n % 10), sum-up)
     (rw (pow-suc, mod-mul n {m = 10 ^ w} {c = 10} (one-le-pow w 10 (lit< tt)) (lit< tt)))
 
-pub fixed-rt : (w n : ℕ) → w ≤ 9 → n < 10 ^ w → digits_of w w (print_fixed w n) ≡ some n
+pub fixed-rt : (w n : ℕ) → w ≤ 9 → n < 10 ^ w → digits_of w w (print_fixed w n) ≡ Some n
 unfolding digits_of
 fixed-rt w n h k = rw (length-fixed, le-leb w w (le_refl w), le-leb w 9 h, digits-rt, mod-eq_of_lt k, zero-mul, zero-add)
 

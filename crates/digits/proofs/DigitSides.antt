@@ -3,7 +3,8 @@
 use Prim.Native.Nat.{ℕ, zero, suc, ◌+◌, ◌-◌, ◌*◌, ◌/◌, ◌%◌, ◌^◌, ◌≤◌, ◌<◌}
 use mathlib.Core.Path.{◌≡◌, sym, ap, ◌∙◌}
 use mathlib.Core.List.{List, [], ◌∷◌, ◌++◌, append_assoc, append-nil}
-use mathlib.Core.Option.{some, some-injective}
+use Rattle.std.specs.Prelude.{Some}
+use Rattle.digits.proofs.Options.{some-injective}
 use native.Mathlib.Omega.{arith}
 use native.Mathlib.Nat.{add-zero, zero-add, zero-mul, mod-eq_of_lt, div-one}
 use lib.ListN.{length}
@@ -22,7 +23,7 @@ one_more k n b h i =
     let r : 48 + (n * 10 + (b - 48)) % 10 ≡ b = omega arith in
     rw (q, r)
 
-printed : (s : List ℕ) (k n v : ℕ) → digits_from n s ≡ some v → print_fixed (k + length s) v ≡ print_fixed k n ++ s
+printed : (s : List ℕ) (k n v : ℕ) → digits_from n s ≡ Some v → print_fixed (k + length s) v ≡ print_fixed k n ++ s
 unfolding digits_from
 printed [] k n v e = rw (add-zero, append-nil, some-injective n v e)
 printed (b ∷ s) k n v e =
@@ -32,20 +33,20 @@ printed (b ∷ s) k n v e =
     rw (q, printed s (suc k) (n * 10 + (b - 48)) v t.1, one_more k n b d.0 d.1, append_assoc)
 
 -- Digits that read as a value are that value in as many digits.
-pub digits_are : (lo hi : ℕ) (s : List ℕ) (v : ℕ) → digits_of lo hi s ≡ some v → s ≡ print_fixed (length s) v
+pub digits_are : (lo hi : ℕ) (s : List ℕ) (v : ℕ) → digits_of lo hi s ≡ Some v → s ≡ print_fixed (length s) v
 unfolding print_fixed
 digits_are lo hi s v e =
     let r : print_fixed (0 + length s) v ≡ s = printed s 0 0 v (opened lo hi s v e).1 in
     sym (rw zero-add at r)
 
 -- A value in w digits, and in no more than nine, reads where lo to hi may stand.
-pub digits-read : (lo hi w n : ℕ) → lo ≤ w → w ≤ hi → w ≤ 9 → n < 10 ^ w → digits_of lo hi (print_fixed w n) ≡ some n
+pub digits-read : (lo hi w n : ℕ) → lo ≤ w → w ≤ hi → w ≤ 9 → n < 10 ^ w → digits_of lo hi (print_fixed w n) ≡ Some n
 unfolding digits_of
 digits-read lo hi w n a b h k =
     rw (length-fixed, le-leb lo w a, le-leb w hi b, le-leb w 9 h, digits-rt, mod-eq_of_lt k, zero-mul, zero-add)
 
 -- Of one width, what reads is the value printed in that width.
-pub fixed-are : (w : ℕ) (s : List ℕ) (v : ℕ) → digits_of w w s ≡ some v → (s ≡ print_fixed w v) × (v < 10 ^ w)
+pub fixed-are : (w : ℕ) (s : List ℕ) (v : ℕ) → digits_of w w s ≡ Some v → (s ≡ print_fixed w v) × (v < 10 ^ w)
 fixed-are w s v e =
     let c = digits-count w w s v e in
     let q : length s ≡ w = omega arith in

@@ -2,7 +2,7 @@
 use Prim.Native.Nat.{◌<◌, ◌^◌, ◌≤◌, suc, zero, ℕ}
 use mathlib.Core.Bool.{Bool, false, true}
 use mathlib.Core.List.{List}
-use mathlib.Core.Option.{none, Option, some}
+use Rattle.std.specs.Prelude.{None, Option, Some}
 use mathlib.Core.Path.{◌∙◌, ◌≡◌, refl, sym}
 use native.Mathlib.Nat.{le_refl, le-suc, lt_of_le_of_lt, lt_of_lt_of_le}
 use lib.IntN.{+ℤ_idl, ◌-ℤ◌, nat_abs, neg_ℤ, pos}
@@ -39,5 +39,5 @@ size false v = refl
 
 -- What a reader of up to hi digits answers is below 10 ^ hi.
 pub under : (s : List ℕ) (lo hi k : ℕ) (o : Option ℕ) → 10 ^ hi ≤ k → o ≡ digits_of lo hi s → Under k o
-under s lo hi k (some v) h e = lt_of_lt_of_le (digits_lt lo hi s v (sym e)) h
-under s lo hi k none h e = tt
+under s lo hi k (Some v) h e = lt_of_lt_of_le (digits_lt lo hi s v (sym e)) h
+under s lo hi k None h e = tt

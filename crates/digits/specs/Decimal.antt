@@ -1,18 +1,18 @@
 -- Decimal digits: their value, and a value printed in a fixed width.
 use Rattle.std.specs.Prelude.{ℕ, zero, suc, ◌+◌, ◌-◌, ◌*◌, ◌/◌, ◌%◌, List, [], ◌∷◌, ◌++◌, Bool, cond, ◌&&◌, leb, eqb, length}
-use Rattle.std.proofs.Math.Option.{Option, none, some}
+use Rattle.std.specs.Prelude.{Option, None, Some}
 
 unfoldable pub is_digit : ℕ → Bool
 is_digit b = leb 48 b && leb b 57
 
 -- The value of the digits s after digits of the value n; none where a byte is no digit.
 unfoldable pub digits_from : ℕ → List ℕ → Option ℕ
-digits_from n [] = some n
-digits_from n (b ∷ s) = cond (is_digit b) (digits_from (n * 10 + (b - 48)) s) none
+digits_from n [] = Some n
+digits_from n (b ∷ s) = cond (is_digit b) (digits_from (n * 10 + (b - 48)) s) None
 
 -- The value of lo to hi digits, and of no more than nine.
 unfoldable pub digits_of : ℕ → ℕ → List ℕ → Option ℕ
-digits_of lo hi s = cond (leb lo (length s) && (leb (length s) hi && leb (length s) 9)) (digits_from 0 s) none
+digits_of lo hi s = cond (leb lo (length s) && (leb (length s) hi && leb (length s) 9)) (digits_from 0 s) None
 
 -- n in w digits.
 unfoldable pub print_fixed : ℕ → ℕ → List ℕ

@@ -2,7 +2,7 @@ pub mod Ascii
 pub mod Hex
 pub mod Same
 pub mod Decimal
-pub mod Means
+pub mod Bind
 pub mod Pairs
 pub mod Pick
 pub mod Plain

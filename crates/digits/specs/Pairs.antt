@@ -1,6 +1,6 @@
 -- Two digits in a field.
 use Rattle.std.specs.Prelude.{ℕ, List, drop, take}
-use Rattle.std.proofs.Math.Option.{Option}
+use Rattle.std.specs.Prelude.{Option}
 use Rattle.digits.specs.Decimal.{digits_of}
 
 -- The value of the two digits that stand in f from place k.

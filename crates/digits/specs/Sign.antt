@@ -1,6 +1,6 @@
 -- Signs of values.
 use Rattle.std.specs.Prelude.{◌<◌, ℕ, Bool, false, true, [], ◌∷◌, List, negsuc, neg_ℤ, pos, ℤ}
-use Rattle.std.proofs.Math.Option.{none, Option, some}
+use Rattle.std.specs.Prelude.{None, Option, Some}
 
 -- A value, negated or as it is; zero is zero either way.
 abbrev pub signed : Bool → ℕ → ℤ
@@ -9,8 +9,8 @@ signed false v = pos v
 
 -- What was read, if anything, is below k.
 abbrev pub Under : ℕ → Option ℕ → Type 0
-Under k (some v) = v < k
-Under k none = Unit {0}
+Under k (Some v) = v < k
+Under k None = Unit {0}
 
 -- The minus of a value that is less than zero; there is none of zero.
 abbrev pub sign_text : ℤ → List ℕ

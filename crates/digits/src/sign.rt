@@ -7,18 +7,12 @@ pub fn held(v: u32, minus: bool) -> i32
     requires { v < 1000000000 }
     ensures { result ≡ signed minus v }
 {
-    if minus {
-        return -(v as i32);
-    }
-    v as i32
+    if minus { -(v as i32) } else { v as i32 }
 }
 
 // A value without its sign.
 pub fn size(z: i32) -> u32
     ensures { result ≡ nat_abs z }
 {
-    if z < 0 {
-        return (-(z as i64)) as u32;
-    }
-    z as u32
+    z.unsigned_abs()
 }

@@ -1,7 +1,7 @@
 // The exhibits of a log: an index beside it, which opens by exhibit number.
 #![tactic(auto)]
 
-use exhibits_lists::Parsed;
+use exhibits_says::Job;
 use std::env::FillError;
 use std::io;
 use std::io::{Read, Write};
@@ -16,46 +16,31 @@ enum Command {
     Read,
     List,
     Check,
-    Unknown,
 }
 
-// The command that a word names.
-fn command_of(word: &[u8]) -> Command {
-    if digits::same_bytes(word, b"make") {
-        return Command::Make;
+impl Command {
+    // The command that a word names.
+    fn named(word: &[u8]) -> Option<Command> {
+        match word {
+            b"make" => Some(Command::Make),
+            b"all" => Some(Command::All),
+            b"add" => Some(Command::Add),
+            b"show" => Some(Command::Show),
+            b"read" => Some(Command::Read),
+            b"list" => Some(Command::List),
+            b"check" => Some(Command::Check),
+            _ => None,
+        }
     }
-    if digits::same_bytes(word, b"all") {
-        return Command::All;
-    }
-    if digits::same_bytes(word, b"add") {
-        return Command::Add;
-    }
-    if digits::same_bytes(word, b"show") {
-        return Command::Show;
-    }
-    if digits::same_bytes(word, b"read") {
-        return Command::Read;
-    }
-    if digits::same_bytes(word, b"list") {
-        return Command::List;
-    }
-    if digits::same_bytes(word, b"check") {
-        return Command::Check;
-    }
-    Command::Unknown
-}
 
-// How many words a command has, the program's name among them.
-fn words_of(command: Command) -> usize {
-    match command {
-        Command::Make => 4,
-        Command::All => 4,
-        Command::Add => 6,
-        Command::Show => 5,
-        Command::Read => 5,
-        Command::List => 3,
-        Command::Check => 4,
-        Command::Unknown => 0,
+    // How many words it has, the program's name among them.
+    fn words(self) -> usize {
+        match self {
+            Command::List => 3,
+            Command::Make | Command::All | Command::Check => 4,
+            Command::Show | Command::Read => 5,
+            Command::Add => 6,
+        }
     }
 }
 
@@ -66,84 +51,69 @@ const ENAMETOOLONG: i32 = 36;
 
 // Why a word of the command cannot be taken.
 fn untaken(why: FillError) -> io::Error {
-    match why {
-        FillError::NotPresent => io::Error::from_raw_os_error(EINVAL),
-        FillError::TooLong => io::Error::from_raw_os_error(ENAMETOOLONG),
-    }
+    io::Error::from_raw_os_error(match why {
+        FillError::NotPresent => EINVAL,
+        FillError::TooLong => ENAMETOOLONG,
+    })
 }
 
-// The number that a word says. Where it says none, that is said.
-fn number_in<E: Write>(err: &mut E, word: &[u8]) -> Parsed {
-    let parsed = exhibits_lists::parse(word);
-    match parsed {
-        Parsed::Is(v) => Parsed::Is(v),
-        Parsed::Bad => {
-            exhibits_says::named(
-                err,
-                b"",
-                word,
-                b" is no number from 0 to 4294967295 in decimal digits, without a sign and needless zeros",
-            );
-            Parsed::Bad
-        }
-    }
-}
-
-// The number that a word of the command says. Where it says none, that is said.
-fn number_at<V: Env, E: Write>(env: &V, err: &mut E, i: usize) -> Parsed {
-    let mut word = [0u8; 4096];
-    match env.arg(i, &mut word) {
-        Ok(n) => number_in(err, &word[0..n]),
+// The number that a word of the command says; nothing where it says none, which is said.
+fn number_at<R: Env, E: Write>(job: &mut Job<R, E>, i: usize) -> Option<u64> {
+    let mut buf = [0u8; 4096];
+    let word = match job.files.arg(i, &mut buf) {
+        Ok(n) => &buf[..n],
         Err(why) => {
-            turns::fail(err, b"exhibits: a number cannot be taken", untaken(why));
-            Parsed::Bad
+            turns::fail(
+                &mut job.err,
+                b"exhibits: a number cannot be taken",
+                untaken(why),
+            );
+            return None;
         }
+    };
+    let parsed = exhibits_lists::parse(word);
+    if parsed.is_none() {
+        exhibits_says::named(
+            &mut job.err,
+            b"",
+            word,
+            b" is no number from 0 to 4294967295 in decimal digits, without a sign and needless zeros",
+        );
+    }
+    parsed
+}
+
+fn add<R: Files + Env, E: Write>(job: &mut Job<R, E>) {
+    let Some(exhibit) = number_at(job, 4) else {
+        return;
+    };
+    let Some(line) = number_at(job, 5) else {
+        return;
+    };
+    exhibits_adding::add(job, exhibit, line);
+}
+
+fn show<R: Files + Env, W: Write, E: Write>(job: &mut Job<R, E>, to: &mut W, fields: bool) {
+    if let Some(exhibit) = number_at(job, 4) {
+        exhibits_showing::show(job, to, exhibit, fields);
     }
 }
 
-fn add<R: Files + Env, E: Write>(rt: &R, err: &mut E, log: &[u8], index: &[u8]) {
-    let Parsed::Is(exhibit) = number_at(rt, err, 4) else {
-        return;
-    };
-    let Parsed::Is(line) = number_at(rt, err, 5) else {
-        return;
-    };
-    exhibits_adding::add(rt, err, log, index, exhibit, line);
-}
-
-fn show<R: Files + Env, W: Write, E: Write>(
-    rt: &R,
-    to: &mut W,
-    err: &mut E,
-    log: &[u8],
-    index: &[u8],
-    fields: bool,
-) {
-    let Parsed::Is(exhibit) = number_at(rt, err, 4) else {
-        return;
-    };
-    exhibits_showing::show(rt, to, err, log, index, exhibit, fields);
-}
-
-// Carries out a command with its file names.
+// Carries out a command.
 fn run<R: Files + Env, I: Read, W: Write, E: Write>(
-    rt: &R,
+    job: &mut Job<R, E>,
     from: &mut I,
     to: &mut W,
-    err: &mut E,
     command: Command,
-    first: &[u8],
-    second: &[u8],
 ) {
     match command {
-        Command::Make => exhibits_renewing::make(rt, from, err, first, second, true),
-        Command::All => exhibits_renewing::make(rt, from, err, first, second, false),
-        Command::Add => add(rt, err, first, second),
-        Command::Show => show(rt, to, err, first, second, false),
-        Command::Read => show(rt, to, err, first, second, true),
-        Command::List => exhibits_showing::list(rt, to, err, first),
-        Command::Check => exhibits_checking::check(rt, to, err, first, second),
-        Command::Unknown => {}
+        Command::Make => exhibits_renewing::make(job, from, true),
+        Command::All => exhibits_renewing::make(job, from, false),
+        Command::Add => add(job),
+        Command::Show => show(job, to, false),
+        Command::Read => show(job, to, true),
+        Command::List => exhibits_showing::list(job, to),
+        Command::Check => exhibits_checking::check(job, to),
     }
 }
 
@@ -152,41 +122,55 @@ fn say_unnamed<E: Write>(err: &mut E, why: FillError) {
 }
 
 // Takes the file names of a command, and carries it out.
-fn start<R: Files + Env, I: Read, W: Write, E: Write>(
+fn start<R: Files + Env, I: Read, W: Write, E: Write + Drop>(
     rt: &R,
     from: &mut I,
     to: &mut W,
-    err: &mut E,
+    err: E,
     command: Command,
 ) {
+    let mut err = err;
     let mut first = [0u8; 4096];
     let a = match rt.arg(2, &mut first) {
         Ok(a) => a,
-        Err(why) => return say_unnamed(err, why),
+        Err(why) => return say_unnamed(&mut err, why),
     };
     let mut second = [0u8; 4096];
     let b = match rt.arg(3, &mut second) {
         Ok(b) => b,
         Err(FillError::NotPresent) => 0,
-        Err(FillError::TooLong) => return say_unnamed(err, FillError::TooLong),
+        Err(why) => return say_unnamed(&mut err, why),
     };
-    run(rt, from, to, err, command, &first[0..a], &second[0..b]);
+    let (log, index) = match command {
+        Command::List => (&second[..b], &first[..a]),
+        _ => (&first[..a], &second[..b]),
+    };
+    let mut job = Job {
+        files: rt,
+        err,
+        log,
+        index,
+    };
+    run(&mut job, from, to, command);
 }
 
 // The command that the first word names.
-fn command_asked<V: Env>(env: &V) -> Command {
+fn command_asked<V: Env>(env: &V) -> Option<Command> {
     let mut word = [0u8; 8];
-    match env.arg(1, &mut word) {
-        Ok(n) => command_of(&word[0..n]),
-        Err(_) => Command::Unknown,
-    }
+    let n = env.arg(1, &mut word).ok()?;
+    Command::named(&word[..n])
 }
 
 fn main(rt: HostRuntime) {
     let mut err = rt.stderr();
-    let command = command_asked(&rt);
-    if turns::arg_count(&rt) != words_of(command) {
-        return exhibits_says::usage(&mut err);
+    match command_asked(&rt) {
+        Some(command) if turns::arg_count(&rt) == command.words() => start(
+            &rt,
+            &mut rt.stdin(),
+            &mut rt.stdout(),
+            err,
+            command,
+        ),
+        _ => exhibits_says::usage(&mut err),
     }
-    start(&rt, &mut rt.stdin(), &mut rt.stdout(), &mut err, command);
 }

@@ -1,6 +1,8 @@
 // The command of the program exhibits that adds an entry at the end of an index.
 #![tactic(auto)]
 
+use exhibits_says::Job;
+use exhibits_walks::lines::Lines;
 use index::Entry;
 use std::fs::{OpenFile, OpenOptions};
 use std::io;
@@ -8,141 +10,93 @@ use std::io::{Seek, SeekFrom, Write};
 use std::rt::Files;
 
 // Says why an entry does not fit behind the last of the index.
-fn say_unfit<E: Write>(err: &mut E, index: &[u8], last: Entry, e: Entry, line: u64) {
-    exhibits_says::begin(err, index, b": ");
+fn say_unfit<R, E: Write>(job: &mut Job<R, E>, last: Entry, e: Entry, line: u64) {
+    exhibits_says::begin(&mut job.err, job.index, b": ");
     if e.number <= last.number {
-        exhibits_says::unordered(
-            err,
+        return exhibits_says::unordered(
+            &mut job.err,
             b"exhibit ",
             e.number,
             last.number,
             b", and exhibits have to ascend (5)\n",
         );
-        return;
     }
-    exhibits_says::counted(err, b"line ", line, b" cannot be stored: it has ");
-    exhibits_says::counted(err, b"", e.length, b" bytes from byte ");
-    exhibits_says::counted(
-        err,
-        b"",
+    let _ = writeln!(
+        job.err,
+        "line {line} cannot be stored: it has {} bytes from byte {} on; 7 to 82 bytes are stored, \
+         behind byte {} where the last exhibit ends, and within 4294967295 (5)",
+        e.length,
         e.offset,
-        b" on; 7 to 82 bytes are stored, behind byte ",
-    );
-    let end = exhibits_walks::sum(last.offset, last.length);
-    exhibits_says::counted(
-        err,
-        b"",
-        end,
-        b" where the last exhibit ends, and within 4294967295 (5)\n",
+        last.offset.saturating_add(last.length)
     );
 }
 
-// What the index ends with: the last entry, and how many bytes it has. Where it is no index or cannot be read, that is said.
-#[derive(Drop)]
-enum Ending {
-    Is(Entry, u64),
-    None,
-}
-
-fn end_of<R: Files, E: Write>(files: &R, err: &mut E, index: &[u8]) -> Ending {
-    let Some(mut file) = exhibits_says::files::index(files, err, index) else {
-        return Ending::None;
-    };
-    let mut buf = [0u8; 65536];
-    let scan = exhibits_walks::entries::scan(&mut file, &mut buf, 0);
-    let last = scan.last;
-    if !exhibits_says::files::is_whole(err, index, scan) {
-        return Ending::None;
-    }
-    Ending::Is(last, size_of(&mut file))
-}
-
-// How many bytes were read of a file; the largest number, which is the size of none, where that cannot be told.
-fn size_of<F: Seek>(file: &mut F) -> u64 {
-    match file.stream_position() {
-        Ok(size) => size,
-        Err(_) => u64::MAX,
-    }
-}
-
-// The line with a number as the entry of an exhibit. Where the log does not have it or cannot be read, that is said.
-#[derive(Drop)]
-enum Line {
-    Is(Entry),
-    None,
-}
-
-fn line_of<R: Files, E: Write>(
-    files: &R,
-    err: &mut E,
-    logged: &[u8],
-    exhibit: u64,
-    line: u64,
-) -> Line {
-    let Some(mut log) = exhibits_says::files::log(files, err, logged) else {
-        return Line::None;
-    };
-    let mut buf = [0u8; 65536];
-    let step = exhibits_walks::lines::line(
-        &mut log,
-        &mut buf,
-        exhibits_walks::lines::start(),
-        line,
-    );
-    match step {
-        exhibits_walks::lines::Step::Line(_, e) => {
-            return Line::Is(Entry {
-                number: exhibit,
-                offset: e.offset,
-                length: e.length,
-            });
+// The last entry of the index, and how many bytes it has: the largest number, which is the size of none, where that cannot be told.
+// Nothing where it is no index or cannot be read, which is said.
+fn end_of<R: Files, E: Write>(job: &mut Job<R, E>) -> Option<(Entry, u64)> {
+    let mut entries = job.open_index()?;
+    match entries.scan(0) {
+        Ok(scanned) => {
+            let size = entries.position().unwrap_or(u64::MAX);
+            Some((scanned.last, size))
         }
-        exhibits_walks::lines::Step::End(lines) => {
-            exhibits_says::begin(err, logged, b" has no line ");
-            exhibits_says::counted(err, b"", line, b", its lines are ");
-            exhibits_says::counted(err, b"", lines, b"\n");
+        Err(why) => {
+            job.unread_index(why);
+            None
         }
-        exhibits_walks::lines::Step::Failed(e) => exhibits_says::unread_log(err, logged, e),
     }
-    Line::None
+}
+
+// The line with a number as the entry of an exhibit; nothing where the log does not have it or cannot be read, which is said.
+fn line_of<R: Files, E: Write>(job: &mut Job<R, E>, exhibit: u64, line: u64) -> Option<Entry> {
+    let mut lines = Lines::new(job.open_log()?);
+    match lines.find_line(line) {
+        Ok(Some(e)) => Some(Entry {
+            number: exhibit,
+            ..e
+        }),
+        Ok(None) => {
+            exhibits_says::begin(&mut job.err, job.log, b" has no line ");
+            let _ = writeln!(job.err, "{line}, its lines are {}", lines.count);
+            None
+        }
+        Err(e) => {
+            job.unread_log(e);
+            None
+        }
+    }
 }
 
 // Makes the file as long as it was, where that has to be.
-fn undo<F: OpenFile, E: Write>(err: &mut E, file: &mut F, index: &[u8], size: u64) {
+fn undo<R, E: Write, F: OpenFile>(job: &mut Job<R, E>, file: &mut F, size: u64) {
     if let Err(e) = file.set_len(size) {
-        exhibits_says::failed(err, b"", index, b" cannot be left as it was", e);
+        job.failed(b"", b" cannot be left as it was", e);
     }
 }
 
 // Writes the bytes by one write at the end of the index, which has so many; where that fails the index stays as it was.
-fn append<F: Write + OpenFile, E: Write>(
-    err: &mut E,
+fn append<R, E: Write, F: Write + OpenFile>(
+    job: &mut Job<R, E>,
     file: &mut F,
-    index: &[u8],
     bytes: &[u8],
     size: u64,
 ) {
     match file.write(bytes) {
-        Err(e) => {
-            exhibits_says::failed(err, b"", index, b" cannot be written", e);
-            return;
+        Err(e) => return job.failed(b"", b" cannot be written", e),
+        Ok(n) if n < bytes.len() => {
+            exhibits_says::named(
+                &mut job.err,
+                b"",
+                job.index,
+                b" cannot be written: there is no room for the whole entry",
+            );
+            return undo(job, file, size);
         }
-        Ok(n) => {
-            if n < bytes.len() {
-                exhibits_says::named(
-                    err,
-                    b"",
-                    index,
-                    b" cannot be written: there is no room for the whole entry",
-                );
-                undo(err, file, index, size);
-                return;
-            }
-        }
+        Ok(_) => {}
     }
     if let Err(e) = file.sync_all() {
-        exhibits_says::failed(err, b"", index, b" cannot be kept", e);
-        undo(err, file, index, size);
+        job.failed(b"", b" cannot be kept", e);
+        undo(job, file, size);
     }
 }
 
@@ -154,75 +108,49 @@ fn open_append<R: Files>(files: &R, index: &[u8]) -> io::Result<R::File> {
 }
 
 // Puts the bytes of an entry behind the last of the index, where it still ends at `size`.
-fn put_at_end<F: Write + Seek + OpenFile, E: Write>(
-    err: &mut E,
+fn put_at_end<R, E: Write, F: Write + Seek + OpenFile>(
+    job: &mut Job<R, E>,
     file: &mut F,
-    index: &[u8],
     bytes: &[u8],
     size: u64,
 ) {
     match file.seek(SeekFrom::End(0)) {
-        Err(e) => exhibits_says::failed(err, b"the index ", index, b" has no end to write at", e),
-        Ok(end) => {
-            if end == size {
-                append(err, file, index, bytes, end);
-            } else {
-                exhibits_says::named(
-                    err,
-                    b"",
-                    index,
-                    b" has changed meanwhile, and nothing is added",
-                );
-            }
-        }
+        Err(e) => job.failed(b"the index ", b" has no end to write at", e),
+        Ok(end) if end == size => append(job, file, bytes, end),
+        Ok(_) => exhibits_says::named(
+            &mut job.err,
+            b"",
+            job.index,
+            b" has changed meanwhile, and nothing is added",
+        ),
     }
 }
 
 // Adds an entry that fits behind the last.
-fn put_behind<R: Files, E: Write>(
-    files: &R,
-    err: &mut E,
-    index: &[u8],
-    last: Entry,
-    e: Entry,
-    size: u64,
-) {
+fn put_behind<R: Files, E: Write>(job: &mut Job<R, E>, last: Entry, e: Entry, size: u64) {
     let mut bytes = [0u8; 16];
     let n = index::put_entry(&mut bytes, 0, last, e);
-    match open_append(files, index) {
-        Err(why) => exhibits_says::failed(
-            err,
-            b"the index ",
-            index,
-            b" cannot be opened for writing",
-            why,
-        ),
+    match open_append(job.files, job.index) {
+        Err(why) => job.failed(b"the index ", b" cannot be opened for writing", why),
         Ok(mut file) => {
-            if n <= 16 {
-                put_at_end(err, &mut file, index, &bytes[0..n], size);
+            if n <= bytes.len() {
+                put_at_end(job, &mut file, &bytes[..n], size);
             }
         }
     }
 }
 
 // Adds a line of the log to the index under the number of an exhibit.
-pub fn add<R: Files, E: Write>(
-    files: &R,
-    err: &mut E,
-    logged: &[u8],
-    index: &[u8],
-    exhibit: u64,
-    line: u64,
-) {
-    let Ending::Is(last, size) = end_of(files, err, index) else {
+pub fn add<R: Files, E: Write>(job: &mut Job<R, E>, exhibit: u64, line: u64) {
+    let Some((last, size)) = end_of(job) else {
         return;
     };
-    let Line::Is(e) = line_of(files, err, logged, exhibit, line) else {
+    let Some(e) = line_of(job, exhibit, line) else {
         return;
     };
     if index::fits(last, e) {
-        put_behind(files, err, index, last, e, size);
-        return;
+        put_behind(job, last, e, size);
+    } else {
+        say_unfit(job, last, e, line);
     }
-    say_unfit(err, index, last, e, line);
 }

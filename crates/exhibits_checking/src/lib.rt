@@ -1,157 +1,99 @@
 // The command of the program exhibits that says whether an index and a log belong together.
 #![tactic(auto)]
 
-use exhibits_walks::entries::Step;
-use exhibits_walks::lines::There;
+use exhibits_says::Job;
+use exhibits_walks::entries::Entries;
 use index::Entry;
 use std::io;
 use std::io::{Read, Seek, Write};
 use std::rt::Files;
 
-// How many exhibits are a line of the log, how many are none, and whether the log could be read.
-#[derive(Clone, Copy)]
+// How many exhibits are a line of the log, and how many are none.
+#[derive(Clone, Copy, Default)]
 struct Checked {
     right: u64,
     wrong: u64,
-    read: bool,
 }
 
-fn nothing() -> Checked {
-    Checked {
-        right: 0,
-        wrong: 0,
-        read: true,
+impl Checked {
+    // Looks whether an exhibit is a line of the log. The first ten that are none are named.
+    fn look<R, E: Write, L: Read + Seek>(
+        &mut self,
+        job: &mut Job<R, E>,
+        log: &mut L,
+        e: Entry,
+    ) -> io::Result<()> {
+        let mut line = [0u8; 82];
+        if exhibits_walks::lines::at_entry(log, &mut line, e)?.is_some() {
+            self.right = self.right.saturating_add(1);
+            return Ok(());
+        }
+        if self.wrong < 10 {
+            job.no_line(e.number);
+        }
+        self.wrong = self.wrong.saturating_add(1);
+        Ok(())
+    }
+
+    // Says how many exhibits are no line of the log.
+    fn say_wrong<R, E: Write>(self, job: &mut Job<R, E>) {
+        let all = self.right.saturating_add(self.wrong);
+        let _ = write!(
+            job.err,
+            "exhibits: {} of the {all} exhibits of ",
+            self.wrong
+        );
+        exhibits_says::bytes(&mut job.err, job.index);
+        exhibits_says::bytes(&mut job.err, b" are no line of ");
+        exhibits_says::bytes(&mut job.err, job.log);
+        exhibits_says::bytes(&mut job.err, b"\n");
+    }
+
+    // Says what all exhibits came to.
+    fn tell<R, E: Write, W: Write>(self, job: &mut Job<R, E>, to: &mut W) {
+        if 0 < self.wrong {
+            return self.say_wrong(job);
+        }
+        if let Err(e) = writeln!(to, "{} exhibits, each is a line of this log", self.right) {
+            exhibits_says::no_output(&mut job.err, e);
+        }
     }
 }
 
-fn one_right(c: Checked) -> Checked {
-    Checked {
-        right: exhibits_walks::sum(c.right, 1),
-        wrong: c.wrong,
-        read: true,
-    }
-}
-
-// One exhibit more that is no line. The first ten are named.
-fn one_wrong<E: Write>(
-    err: &mut E,
-    c: Checked,
-    logged: &[u8],
-    index: &[u8],
-    exhibit: u64,
-) -> Checked {
-    if c.wrong < 10 {
-        exhibits_says::no_line_of(err, logged, index, exhibit);
-    }
-    Checked {
-        right: c.right,
-        wrong: exhibits_walks::sum(c.wrong, 1),
-        read: true,
-    }
-}
-
-fn unread<E: Write>(err: &mut E, c: Checked, logged: &[u8], e: io::Error) -> Checked {
-    exhibits_says::unread_log(err, logged, e);
-    Checked {
-        right: c.right,
-        wrong: c.wrong,
-        read: false,
-    }
-}
-
-// Looks whether an exhibit is a line of the log.
-fn look<L: Read + Seek, E: Write>(
-    err: &mut E,
+// Looks at each exhibit of the index, and answers whether all could be read; else that is said.
+fn check_entries<R, E: Write, F: Read, L: Read + Seek>(
+    job: &mut Job<R, E>,
+    entries: &mut Entries<F>,
     log: &mut L,
-    c: Checked,
-    e: Entry,
-    logged: &[u8],
-    index: &[u8],
-) -> Checked {
-    let mut line = [0u8; 82];
-    let there = exhibits_walks::lines::at_entry(log, &mut line, e);
-    match there {
-        There::Line(_) => one_right(c),
-        There::Other => one_wrong(err, c, logged, index, e.number),
-        There::Failed(why) => unread(err, c, logged, why),
-    }
-}
-
-// Says how many exhibits are no line of the log.
-fn say_wrong<E: Write>(err: &mut E, c: Checked, logged: &[u8], index: &[u8]) {
-    exhibits_says::counted(err, b"exhibits: ", c.wrong, b" of the ");
-    exhibits_says::counted(
-        err,
-        b"",
-        exhibits_walks::sum(c.right, c.wrong),
-        b" exhibits of ",
-    );
-    exhibits_says::bytes(err, index);
-    exhibits_says::bytes(err, b" are no line of ");
-    exhibits_says::bytes(err, logged);
-    exhibits_says::bytes(err, b"\n");
-}
-
-// Writes that each exhibit is a line of the log.
-fn say_right<W: Write>(to: &mut W, c: Checked) -> io::Result<()> {
-    let counted = write!(to, "{}", c.right);
-    let told = to.write_all(b" exhibits, each is a line of this log\n");
-    told.and(counted)
-}
-
-// Says what all exhibits came to.
-fn tell<W: Write, E: Write>(to: &mut W, err: &mut E, c: Checked, logged: &[u8], index: &[u8]) {
-    if 0 < c.wrong {
-        return say_wrong(err, c, logged, index);
-    }
-    if let Err(e) = say_right(to, c) {
-        exhibits_says::no_output(err, e);
-    }
-}
-
-// Looks at each exhibit of the index.
-fn check_entries<F: Read, L: Read + Seek, W: Write, E: Write>(
-    to: &mut W,
-    err: &mut E,
-    file: &mut F,
-    log: &mut L,
-    buf: &mut [u8],
-    logged: &[u8],
-    index: &[u8],
-) {
-    let mut walk = exhibits_walks::entries::start();
-    let mut checked = nothing();
+) -> Option<Checked> {
+    let mut checked = Checked::default();
     for _ in 0..u64::MAX {
-        let step = exhibits_walks::entries::next(file, buf, walk);
-        match step {
-            Step::At(on) => {
-                let last = on.last;
-                checked = look(err, log, checked, last, logged, index);
-                walk = on;
+        match entries.next_entry() {
+            Ok(Some(e)) => {
+                if let Err(why) = checked.look(job, log, e) {
+                    job.unread_log(why);
+                    return None;
+                }
             }
-            Step::End => return tell(to, err, checked, logged, index),
-            Step::Bad => return exhibits_says::no_index(err, index),
-            Step::Failed(e) => return exhibits_says::unread_index(err, index, e),
-        }
-        if !checked.read {
-            return;
+            Ok(None) => return Some(checked),
+            Err(why) => {
+                job.unread_index(why);
+                return None;
+            }
         }
     }
+    None
 }
 
 // Says whether every exhibit of the index is a line that the finder gives out in the log, and else which is not.
-pub fn check<R: Files, W: Write, E: Write>(
-    files: &R,
-    to: &mut W,
-    err: &mut E,
-    logged: &[u8],
-    index: &[u8],
-) {
-    let mut buf = [0u8; 65536];
-    let Some(mut file) = exhibits_says::files::whole_index(files, err, index, &mut buf) else {
+pub fn check<R: Files, E: Write, W: Write>(job: &mut Job<R, E>, to: &mut W) {
+    let Some(mut entries) = job.whole_index() else {
         return;
     };
-    if let Some(mut log) = exhibits_says::files::log(files, err, logged) {
-        check_entries(to, err, &mut file, &mut log, &mut buf, logged, index);
+    let Some(mut log) = job.open_log() else {
+        return;
+    };
+    if let Some(checked) = check_entries(job, &mut entries, &mut log) {
+        checked.tell(job, to);
     }
 }

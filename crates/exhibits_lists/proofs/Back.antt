@@ -2,7 +2,7 @@
 use Prim.Native.Nat.{◌%◌, ◌+◌, ◌/◌, ◌<◌, ◌^◌, ◌≤◌, suc, zero, ℕ}
 use mathlib.Core.Bool.{Bool, false, true}
 use mathlib.Core.List.{[], ◌∷◌}
-use mathlib.Core.Option.{some}
+use Rattle.std.specs.Prelude.{Some}
 use mathlib.Core.Path.{◌∙◌, ◌≡◌, refl}
 use native.Mathlib.Nat.{mod-eq_of_lt, pow-le-pow_right, pow-suc, zero-add, zero-mul}
 use native.Mathlib.Omega.{arith}
@@ -41,11 +41,11 @@ few m n l k = go (leb 10 m) refl
         absurd z
     go false e = omega (arith, leb-false 10 m e)
 
-value : (m n : ℕ) → n < 10 ^ suc m → digits_from 0 (print_fixed (suc m) n) ≡ some n
+value : (m n : ℕ) → n < 10 ^ suc m → digits_from 0 (print_fixed (suc m) n) ≡ Some n
 value m n h = digits-rt (suc m) n 0 ∙ rw (mod-eq_of_lt h, zero-mul, zero-add)
 
 -- A text of n in more places than one only where n needs them, as `decimal_text` of the crate text is.
-pub number-back : (m n : ℕ) → n ≤ most → n < 10 ^ suc m → (1 ≤ m → 10 ^ m ≤ n) → number_of (print_fixed (suc m) n) ≡ some n
+pub number-back : (m n : ℕ) → n ≤ most → n < 10 ^ suc m → (1 ≤ m → 10 ^ m ≤ n) → number_of (print_fixed (suc m) n) ≡ Some n
 unfolding number_of
 number-back m n l h k =
     rw (unpadded m n h k, length-fixed (suc m) n, le-leb 1 (suc m) (omega arith), le-leb (suc m) 10 (omega (arith, few m n l k)))

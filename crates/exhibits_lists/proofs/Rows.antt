@@ -1,73 +1,74 @@
 -- A row by the places where its words begin and end.
-use Prim.Native.Nat.{◌+◌, ◌-◌, ◌<◌, ◌≤◌, suc, ℕ}
+use Prim.Native.Nat.{◌+◌, ◌-◌, ◌<◌, ◌≤◌, ℕ}
 use mathlib.Core.Bool.{◌&&◌, Bool, cond, false, true}
-use mathlib.Core.List.{[], ◌∷◌, List}
+use mathlib.Core.List.{List}
 use mathlib.Core.Path.{◌∙◌, ◌≡◌, ap, sym}
 use native.Mathlib.Omega.{arith}
 use lib.Dec.{eqb, leb}
 use lib.ListN.{drop, get_or, length, length-drop, take}
+use lib.Seq.{take_all}
 use borrow.Author.Tests.{le-leb, le-ltb, lt-leb, lt-ltb}
-use Rattle.exhibits_lists.specs.Lists.{behind, blanks, body_length, is_blank, number_of, pair_of, row_of, two_words, width, word_at}
+use Rattle.exhibits_lists.specs.Lists.{behind, blanks, body_length, number_of, pair_of, row_of, skip, two_words, width, word_at}
 use Rattle.exhibits_lists.specs.declared.Row.TheVariants as R
 
 cond-le : (t : Bool) (x y n : ℕ) → x ≤ n → y ≤ n → cond t x y ≤ n
 cond-le true x y n h k = h
 cond-le false x y n h k = k
 
-blanks-le : (s : List ℕ) → blanks s ≤ length s
-unfolding blanks
-blanks-le [] = omega arith
-blanks-le (b ∷ s) = cond-le (is_blank b) (blanks s + 1) 0 (suc (length s)) (omega (arith, blanks-le s)) (omega arith)
+-- What a slice from a place on holds.
+abbrev pub rest : List ℕ → ℕ → List ℕ
+rest t k = take (length t - k) (drop k t)
 
-width-le : (s : List ℕ) → width s ≤ length s
-unfolding width
-width-le [] = omega arith
-width-le (b ∷ s) = cond-le (is_blank b) 0 (width s + 1) (suc (length s)) (omega arith) (omega (arith, width-le s))
+rest-is : (t : List ℕ) (k : ℕ) → rest t k ≡ drop k t
+rest-is t k = take_all (length t - k) (drop k t) (simp length-drop (omega arith))
 
--- A place found from a place within the row on is within the row.
-module _ (t : List ℕ) (a b : ℕ) (h : a ≤ length t) where
-  pub blanks-within : b ≡ a + blanks (drop a t) → b ≤ length t
-  blanks-within e = omega (arith, e, blanks-le (drop a t), length-drop a t)
+module _ (t : List ℕ) (a : ℕ) (ea : a ≡ blanks t) where
+  begins : skip t 0 ≡ a
+  begins = omega (arith, ea)
 
-  pub width-within : b ≡ a + width (drop a t) → b ≤ length t
-  width-within e = omega (arith, e, width-le (drop a t), length-drop a t)
-
-module _ (t : List ℕ) (a : ℕ) (ea : a ≡ 0 + blanks (drop 0 t)) where
   pub row-blank : length t ≤ a → R.Blank ≡ row_of t
   unfolding row_of
-  row-blank h = rw (← ea, le-leb _ _ h)
+  row-blank h = rw (begins, le-leb _ _ h)
 
   first : a < length t → row_of t ≡ two_words t a (behind t a)
   unfolding row_of
-  first h = rw (← ea, lt-leb _ _ h)
+  first h = rw (begins, lt-leb _ _ h)
 
-  module _ (b c d e : ℕ) (la : a < length t) (eb : b ≡ a + width (drop a t)) (ec : c ≡ b + blanks (drop b t))
-      (ed : d ≡ c + width (drop c t)) (ee : e ≡ d + blanks (drop d t)) where
-    second : behind t a ≡ c
-    second = rw (← eb) (sym ec)
+  -- a word of w bytes, x blanks, a word of y bytes and z blanks
+  module _ (w x y z : ℕ) (la : a < length t) (ew : w ≡ width (rest t a)) (ex : x ≡ blanks (rest t (a + w)))
+      (ey : y ≡ width (rest t (a + w + x))) (ez : z ≡ blanks (rest t (a + w + x + y))) where
+    in-first : w ≡ width (drop a t)
+    in-first = ew ∙ ap width (rest-is t a)
 
-    third : behind t c ≡ e
-    third = rw (← ed) (sym ee)
+    in-second : y ≡ width (drop (a + w + x) t)
+    in-second = ey ∙ ap width (rest-is t (a + w + x))
 
-    words : row_of t ≡ two_words t a c
+    second : behind t a ≡ a + w + x
+    second = rw (← in-first, ← (ex ∙ ap blanks (rest-is t (a + w))))
+
+    third : behind t (a + w + x) ≡ a + w + x + y + z
+    third = rw (← in-second, ← (ez ∙ ap blanks (rest-is t (a + w + x + y))))
+
+    words : row_of t ≡ two_words t a (a + w + x)
     words = first la ∙ ap (λ (k : ℕ). two_words t a k) second
 
-    more : e < length t → two_words t a c ≡ R.Bad
+    more : a + w + x + y + z < length t → two_words t a (a + w + x) ≡ R.Bad
     unfolding two_words
     more h = rw (third, lt-ltb _ _ h)
 
-    pub row_more : e < length t → R.Bad ≡ row_of t
+    pub row_more : a + w + x + y + z < length t → R.Bad ≡ row_of t
     row_more h = sym (words ∙ more h)
 
-    two : length t ≤ e → two_words t a c ≡ pair_of (number_of (word_at t a)) (number_of (word_at t c))
+    two : length t ≤ a + w + x + y + z → two_words t a (a + w + x) ≡ pair_of (number_of (word_at t a)) (number_of (word_at t (a + w + x)))
     unfolding two_words
     two h = rw (third, le-ltb _ _ h)
 
-    parts : pair_of (number_of (take (b - a) (drop a t))) (number_of (take (d - c) (drop c t))) ≡ pair_of (number_of (word_at t a))
-        (number_of (word_at t c))
-    parts = rw (let z : b - a ≡ width (drop a t) = omega (arith, eb) in z, let z : d - c ≡ width (drop c t) = omega (arith, ed) in z)
+    parts : pair_of (number_of (take (a + w - a) (drop a t))) (number_of (take (a + w + x + y - (a + w + x)) (drop (a + w + x) t))) ≡ pair_of (number_of (word_at t a))
+        (number_of (word_at t (a + w + x)))
+    parts = rw (let p : a + w - a ≡ width (drop a t) = omega (arith, in-first) in p)
+        (rw (let q : a + w + x + y - (a + w + x) ≡ width (drop (a + w + x) t) = omega (arith, in-second) in q))
 
-    pub row-two : length t ≤ e → pair_of (number_of (take (b - a) (drop a t))) (number_of (take (d - c) (drop c t))) ≡ row_of t
+    pub row-two : length t ≤ a + w + x + y + z → pair_of (number_of (take (a + w - a) (drop a t))) (number_of (take (a + w + x + y - (a + w + x)) (drop (a + w + x) t))) ≡ row_of t
     row-two h = parts ∙ sym (words ∙ two h)
 
 -- The length without the CR is no longer.

@@ -1,30 +1,24 @@
 -- Numbers and rows as a person writes them.
 use Rattle.std.specs.Prelude.{◌+◌, ◌-◌, ℕ, ◌&&◌, ◌||◌, Bool, cond, false, not, true, [], ◌∷◌, List, eqb, leb, ltb, drop, get_or, length, take}
-use Rattle.std.proofs.Math.Option.{none, Option, some}
+use Rattle.std.specs.Prelude.{None, Option, Some}
 use Rattle.digits.specs.Decimal.{digits_from}
 use Rattle.index_sevens.specs.Sevens.{most}
 use Rattle.exhibits_lists.specs.declared.Asked.{Asked}
 use Rattle.exhibits_lists.specs.declared.Asked.TheVariants as A
-use Rattle.exhibits_lists.specs.declared.Parsed.{Parsed}
-use Rattle.exhibits_lists.specs.declared.Parsed.TheVariants as P
 use Rattle.exhibits_lists.specs.declared.Row.{Row}
 use Rattle.exhibits_lists.specs.declared.Row.TheVariants as R
-
-abbrev pub number : Parsed → Option ℕ
-number (P.Is v) = some v
-number P.Bad = none
 
 -- A zero before other digits.
 unfoldable pub is_padded : List ℕ → Bool
 is_padded s = leb 2 (length s) && eqb (get_or s 0 0) 48
 
 abbrev pub up_to : Option ℕ → Option ℕ
-up_to (some v) = cond (leb v most) (some v) none
-up_to none = none
+up_to (Some v) = cond (leb v most) (Some v) None
+up_to None = None
 
 -- 1 to 10 decimal digits, no needless zero, at most 4294967295.
 unfoldable pub number_of : List ℕ → Option ℕ
-number_of s = cond (leb 1 (length s) && (leb (length s) 10 && not (is_padded s))) (up_to (digits_from 0 s)) none
+number_of s = cond (leb 1 (length s) && (leb (length s) 10 && not (is_padded s))) (up_to (digits_from 0 s)) None
 
 -- A blank or a tab.
 unfoldable pub is_blank : ℕ → Bool
@@ -47,9 +41,9 @@ abbrev pub body_of : List ℕ → List ℕ
 body_of s = take (body_length s) s
 
 abbrev pub pair_of : Option ℕ → Option ℕ → Row
-pair_of (some a) (some b) = R.Is a b
-pair_of (some a) none = R.Bad
-pair_of none q = R.Bad
+pair_of (Some a) (Some b) = R.Is a b
+pair_of (Some a) None = R.Bad
+pair_of None q = R.Bad
 
 abbrev pub pick_row : Bool → Row → Row → Row
 pick_row true a b = a

@@ -2,86 +2,27 @@
 #![tactic(auto)]
 
 ghost use Rattle.std.specs.Prelude.{◌+◌, ◌≤◌, ◌≡◌, drop, length};
-ghost use Rattle.digits.specs.Decimal.{digits_from};
-ghost use Rattle.exhibits_lists.specs.Lists.{asked_of, blanks, body_length, body_of, follows_of, is_blank, is_padded, number, number_of};
-ghost use Rattle.exhibits_lists.specs.Lists.{pair_of, row_of, up_to, width};
-
-// A number that was read, or bytes that are none.
-#[derive(Drop)]
-pub enum Parsed {
-    Is(u64),
-    Bad,
-}
-
-fn wide(b: u8) -> u64
-    ensures { result ≡ b }
-{
-    b as u64
-}
-
-// The value of up to ten decimal digits.
-fn scan(s: &[u8]) -> Parsed
-    requires { length s.now ≤ 10 }
-    ensures { number result ≡ digits_from 0 s.now }
-{
-    let mut acc: u64 = 0;
-    let mut i: usize = 0;
-    while i < s.len() {
-        let b = s[i];
-        if b < 48 {
-            return Parsed::Bad;
-        }
-        if 57 < b {
-            return Parsed::Bad;
-        }
-        acc = acc * 10 + (wide(b) - 48);
-        i += 1;
-    }
-    Parsed::Is(acc)
-}
+ghost use Rattle.exhibits_lists.specs.Lists.{asked_of, blanks, body_length, body_of, follows_of, is_blank, is_padded, number_of};
+ghost use Rattle.exhibits_lists.specs.Lists.{pair_of, row_of, width};
 
 // Whether a zero stands before other digits.
 fn is_padded(s: &[u8]) -> bool
     ensures { result ≡ is_padded s.now }
 {
-    if s.len() < 2 {
-        return false;
-    }
-    s[0] == 48
-}
-
-// The number, where it is at most 4294967295.
-fn up_to(p: Parsed) -> Parsed
-    ensures { number result ≡ up_to (number p) }
-{
-    match p {
-        Parsed::Is(v) => {
-            if v <= 4294967295 {
-                return Parsed::Is(v);
-            }
-            Parsed::Bad
-        }
-        Parsed::Bad => Parsed::Bad,
-    }
+    2 <= s.len() && s[0] == b'0'
 }
 
 // The number that decimal digits say: 1 to 10 of them, no sign, no needless zero, at most 4294967295.
-pub fn parse(s: &[u8]) -> Parsed
-    ensures { number result ≡ number_of s.now }
+pub fn parse(s: &[u8]) -> Option<u64>
+    ensures { result ≡ number_of s.now }
 {
-    if s.len() < 1 {
-        return Parsed::Bad;
+    if s.is_empty() || 10 < s.len() || is_padded(s) {
+        return None;
     }
-    if 10 < s.len() {
-        return Parsed::Bad;
-    }
-    if is_padded(s) {
-        return Parsed::Bad;
-    }
-    up_to(scan(s))
+    digits::decimal(s).filter(|&v| v <= 4294967295)
 }
 
-// What a row of a list says: an exhibit and a line, nothing, or something else.
+// What a row of a list says: an exhibit and a line, nothing, or something else; each of the three is answered apart.
 #[derive(Drop)]
 pub enum Row {
     Is(u64, u64),
@@ -93,61 +34,42 @@ pub enum Row {
 fn is_blank(b: u8) -> bool
     ensures { result ≡ is_blank b }
 {
-    (b == 32) | (b == 9)
+    b == b' ' || b == b'\t'
 }
 
-// The first place from `at` on that holds no blank.
-fn past_blanks(s: &[u8], at: usize) -> usize
-    ensures { result ≡ at + blanks (drop at s.now) }
+// How many blanks stand at the start.
+fn blanks(s: &[u8]) -> usize
+    ensures count { result ≡ blanks s.now }
+    ensures within { result ≤ length s.now }
 {
-    let mut i = at;
-    while i < s.len() {
-        if !is_blank(s[i]) {
-            return i;
-        }
-        i += 1;
-    }
-    i
+    s.iter().position(|&b| !is_blank(b)).unwrap_or(s.len())
 }
 
-// The first place from `at` on where a word has ended.
-fn past_word(s: &[u8], at: usize) -> usize
-    ensures { result ≡ at + width (drop at s.now) }
+// How many bytes stand before the first blank.
+fn width(s: &[u8]) -> usize
+    ensures count { result ≡ width s.now }
+    ensures within { result ≤ length s.now }
 {
-    let mut i = at;
-    while i < s.len() {
-        if is_blank(s[i]) {
-            return i;
-        }
-        i += 1;
-    }
-    i
+    s.iter().position(|&b| is_blank(b)).unwrap_or(s.len())
 }
 
 // How long a row is without the CR at its end.
 fn body_length(s: &[u8]) -> usize
     ensures { result ≡ body_length s.now }
 {
-    if s.len() < 1 {
-        return 0;
-    }
-    let last = s.len() - 1;
-    if s[last] == 13 {
-        return last;
+    if s.last() == Some(&b'\r') {
+        return s.len() - 1;
     }
     s.len()
 }
 
 // The row of two numbers.
-fn pair(p: Parsed, q: Parsed) -> Row
-    ensures { result ≡ pair_of (number p) (number q) }
+fn pair(p: Option<u64>, q: Option<u64>) -> Row
+    ensures { result ≡ pair_of p q }
 {
-    match p {
-        Parsed::Is(a) => match q {
-            Parsed::Is(b) => Row::Is(a, b),
-            Parsed::Bad => Row::Bad,
-        },
-        Parsed::Bad => Row::Bad,
+    match (p, q) {
+        (Some(exhibit), Some(line)) => Row::Is(exhibit, line),
+        _ => Row::Bad,
     }
 }
 
@@ -155,14 +77,14 @@ fn pair(p: Parsed, q: Parsed) -> Row
 fn body(t: &[u8]) -> Row
     ensures { result ≡ row_of t.now }
 {
-    let a = past_blanks(t, 0);
+    let a = blanks(t);
     if t.len() <= a {
         return Row::Blank;
     }
-    let b = past_word(t, a);
-    let c = past_blanks(t, b);
-    let d = past_word(t, c);
-    let e = past_blanks(t, d);
+    let b = a + width(&t[a..]);
+    let c = b + blanks(&t[b..]);
+    let d = c + width(&t[c..]);
+    let e = d + blanks(&t[d..]);
     if e < t.len() {
         return Row::Bad;
     }

@@ -1,124 +1,101 @@
 // The list on standard input, of any length, row by row.
 #![tactic(auto)]
 
+ghost use Rattle.std.specs.Prelude.{◌≤◌, ◌<◌, IfSome};
+
 use exhibits_lists::Row;
 use std::io;
 use std::io::Read;
 use turns::Came;
 
-// Where reading the list stands: the buffer's bytes from `at` up to `end` come next, and `rows` rows stand before them.
-#[derive(Clone, Copy)]
-pub struct Walk {
-    pub at: usize,
-    pub end: usize,
-    pub rows: u64,
-}
-
-// What comes next: a row; the end; a row that is longer than any row may be; or a list that cannot be read, and
-// why.
-#[derive(Drop)]
-pub enum Step {
-    Row(Walk, Row),
-    End,
-    Long(Walk),
+// Why a list cannot be gone over: a row is longer than any row may be, or it cannot be read.
+#[derive(Clone, Copy, Debug)]
+pub enum Unread {
+    TooLong,
     Failed(io::Error),
 }
 
+impl From<io::Error> for Unread {
+    fn from(e: io::Error) -> Self {
+        Unread::Failed(e)
+    }
+}
+
+// A list and where reading it stands: the bytes of `buf` from `at` up to `end` come next, and `count` rows stand
+// before them, one that is too long among them.
 #[derive(Drop)]
-enum More {
-    On(Walk),
-    Last(usize),
-    End,
-    Full,
-    Failed(io::Error),
+pub struct Rows<R> {
+    list: R,
+    buf: [u8; 4096],
+    at: usize,
+    end: usize,
+    pub count: u64,
+    ghost ahead: { at ≤ end },
+    ghost inside: { end ≤ 4096 },
 }
 
-pub fn start() -> Walk {
-    Walk {
-        at: 0,
-        end: 0,
-        rows: 0,
-    }
-}
-
-// Where the LF of the next row stands in the buffer; the end where there is none.
-fn lf_in(buf: &[u8], w: Walk) -> usize {
-    let at = w.at;
-    let end = w.end;
-    if buf.len() < end {
-        return end;
-    }
-    if end < at {
-        return end;
-    }
-    at + digits::find(&buf[at..end], b'\n')
-}
-
-// What the bytes from `a` up to `e` say.
-fn row_in(buf: &[u8], a: usize, e: usize) -> Row {
-    if buf.len() < e {
-        return Row::Bad;
-    }
-    if e < a {
-        return Row::Bad;
-    }
-    exhibits_lists::read_row(&buf[a..e])
-}
-
-// The walk behind one row more, which goes on at `next`.
-fn behind(w: Walk, next: usize) -> Walk {
-    Walk {
-        at: next,
-        end: w.end,
-        rows: exhibits_walks::sum(w.rows, 1),
-    }
-}
-
-// The step to the row from `a` up to `e`; the walk goes on at `next`.
-fn step_to(buf: &[u8], w: Walk, a: usize, e: usize, next: usize) -> Step {
-    let row = row_in(buf, a, e);
-    Step::Row(behind(w, next), row)
-}
-
-// Keeps the bytes of a row that is not whole, and reads more behind them. The last row needs no LF.
-fn read_on<R: Read>(from: &mut R, buf: &mut [u8], w: Walk) -> More {
-    let at = w.at;
-    let end = w.end;
-    let kept = turns::keep(buf, at, end);
-    let came = turns::read_more(from, buf, kept);
-    match came {
-        Came::Bytes(n) => More::On(Walk {
+impl<R: Read> Rows<R> {
+    pub fn new(list: R) -> Self {
+        Rows {
+            list,
+            buf: [0; 4096],
             at: 0,
-            end: n,
-            rows: w.rows,
-        }),
-        Came::End => {
-            if kept == 0 {
-                return More::End;
-            }
-            More::Last(kept)
+            end: 0,
+            count: 0,
         }
-        Came::Full => More::Full,
-        Came::Failed(e) => More::Failed(e),
     }
-}
 
-// The next row of the list.
-pub fn next<R: Read>(from: &mut R, buf: &mut [u8], w: Walk) -> Step {
-    let mut walk = w;
-    for _ in 0..u64::MAX {
-        let lf = lf_in(buf, walk);
-        if lf < walk.end {
-            return step_to(buf, walk, walk.at, lf, lf + 1);
-        }
-        let more = read_on(from, buf, walk);
-        match more {
-            More::On(on) => walk = on,
-            More::Last(n) => return step_to(buf, walk, 0, n, walk.end),
-            More::End => return Step::End,
-            More::Full => return Step::Long(behind(walk, walk.end)),
-            More::Failed(e) => return Step::Failed(e),
-        }
+    // Where the LF of the next row stands in the buffer.
+    fn lf(&self) -> Option<usize>
+        ensures behind { IfSome result (λ lf. self.now.at ≤ lf) }
+        ensures inside { IfSome result (λ lf. lf < self.now.end) }
+    {
+        let at = self.at;
+        let n = self.buf[at..self.end].iter().position(|&b| b == b'\n')?;
+        Some(at + n)
     }
-    Step::End
+
+    // What the row up to `lf` says; reading goes on at `next`.
+    fn take(&mut self, lf: usize, next: usize) -> Row
+        requires behind { self.old.at ≤ lf }
+        requires onward { lf ≤ next }
+        requires inside { next ≤ self.old.end }
+    {
+        let row = exhibits_lists::read_row(&self.buf[self.at..lf]);
+        self.at = next;
+        self.count = self.count.saturating_add(1);
+        row
+    }
+
+    // Keeps the bytes of a row that is not whole, and reads more behind them.
+    fn read_on(&mut self) -> io::Result<Came> {
+        let kept = turns::keep(&mut self.buf, self.at, self.end);
+        self.at = 0;
+        self.end = kept;
+        let came = turns::read_more(&mut self.list, &mut self.buf, kept)?;
+        if let Came::Bytes(end) = came {
+            self.end = end;
+        }
+        Ok(came)
+    }
+
+    // The next row of the list, of which the last needs no LF; none at its end. Nobody proves that the input ends: the reads are counted
+    // down from a number that no run uses up.
+    pub fn next_row(&mut self) -> Result<Option<Row>, Unread> {
+        for _ in 0..u64::MAX {
+            if let Some(lf) = self.lf() {
+                return Ok(Some(self.take(lf, lf + 1)));
+            }
+            match self.read_on()? {
+                Came::Bytes(_) => {}
+                Came::End if self.at == self.end => return Ok(None),
+                Came::End => return Ok(Some(self.take(self.end, self.end))),
+                Came::Full => {
+                    self.count = self.count.saturating_add(1);
+                    return Err(Unread::TooLong);
+                }
+            }
+        }
+        Ok(None)
+    }
 }

@@ -3,8 +3,18 @@
 
 pub mod files;
 
+use exhibits_walks::entries::Unread;
 use std::io;
 use std::io::Write;
+
+// What a command works on: the files of the system, where it says what it cannot do, and the names of a log and of the index beside it.
+#[derive(Drop)]
+pub struct Job<'a, R, E> {
+    pub files: &'a R,
+    pub err: E,
+    pub log: &'a [u8],
+    pub index: &'a [u8],
+}
 
 pub fn bytes<E: Write>(err: &mut E, s: &[u8]) {
     let _ = err.write_all(s);
@@ -60,25 +70,31 @@ pub fn no_output<E: Write>(err: &mut E, e: io::Error) {
     turns::fail(err, b"exhibits: standard output cannot be written", e);
 }
 
-pub fn unread_log<E: Write>(err: &mut E, log: &[u8], e: io::Error) {
-    failed(err, b"the log ", log, b" cannot be read", e);
-}
+impl<R, E: Write> Job<'_, R, E> {
+    // A row about the index, with why a call failed at its end.
+    pub fn failed(&mut self, before: &[u8], after: &[u8], e: io::Error) {
+        failed(&mut self.err, before, self.index, after, e);
+    }
 
-pub fn unread_index<E: Write>(err: &mut E, index: &[u8], e: io::Error) {
-    failed(err, b"the index ", index, b" cannot be read", e);
-}
+    pub fn unread_log(&mut self, e: io::Error) {
+        failed(&mut self.err, b"the log ", self.log, b" cannot be read", e);
+    }
 
-pub fn no_index<E: Write>(err: &mut E, index: &[u8]) {
-    named(err, b"", index, b" is no index (11)");
-}
+    pub fn unread_index(&mut self, why: Unread) {
+        match why {
+            Unread::NoIndex => named(&mut self.err, b"", self.index, b" is no index (11)"),
+            Unread::Failed(e) => self.failed(b"the index ", b" cannot be read", e),
+        }
+    }
 
-// An exhibit whose bytes in the log are no line.
-pub fn no_line_of<E: Write>(err: &mut E, log: &[u8], index: &[u8], exhibit: u64) {
-    counted(err, b"exhibits: exhibit ", exhibit, b" of ");
-    bytes(err, index);
-    bytes(err, b" is no line of ");
-    bytes(err, log);
-    bytes(err, b": this is not the log of the index\n");
+    // An exhibit whose bytes in the log are no line.
+    pub fn no_line(&mut self, exhibit: u64) {
+        counted(&mut self.err, b"exhibits: exhibit ", exhibit, b" of ");
+        bytes(&mut self.err, self.index);
+        bytes(&mut self.err, b" is no line of ");
+        bytes(&mut self.err, self.log);
+        bytes(&mut self.err, b": this is not the log of the index\n");
+    }
 }
 
 fn usage_of_making<E: Write>(err: &mut E) {

@@ -1,74 +1,40 @@
 // The commands of the program exhibits that show what an index says.
 #![tactic(auto)]
 
-use exhibits_walks::entries::Step;
-use exhibits_walks::lines::There;
+use exhibits_says::Job;
+use exhibits_walks::entries::{Entries, Unread};
 use index::Entry;
-use numbers::Told;
 use std::io;
 use std::io::{Read, Write};
 use std::rt::Files;
 
 // What the index says of an exhibit; where it says nothing, that is said.
-#[derive(Drop)]
-enum Known {
-    Is(Entry),
-    None,
-}
-
-fn seek<R: Files, E: Write>(files: &R, err: &mut E, index: &[u8], exhibit: u64) -> Known {
-    let Some(mut file) = exhibits_says::files::index(files, err, index) else {
-        return Known::None;
-    };
-    let mut buf = [0u8; 65536];
-    let scan = exhibits_walks::entries::scan(&mut file, &mut buf, exhibit);
-    let found = scan.found;
-    let sought = scan.sought;
-    if !exhibits_says::files::is_whole(err, index, scan) {
-        return Known::None;
+fn seek<R: Files, E: Write>(job: &mut Job<R, E>, exhibit: u64) -> Option<Entry> {
+    let mut entries = job.open_index()?;
+    match entries.scan(exhibit) {
+        Ok(scanned) => {
+            if scanned.sought.is_none() {
+                exhibits_says::begin(&mut job.err, job.index, b" has no exhibit ");
+                let _ = writeln!(job.err, "{exhibit} (12)");
+            }
+            scanned.sought
+        }
+        Err(why) => {
+            job.unread_index(why);
+            None
+        }
     }
-    if found {
-        return Known::Is(sought);
-    }
-    exhibits_says::begin(err, index, b" has no exhibit ");
-    exhibits_says::counted(err, b"", exhibit, b" (12)\n");
-    Known::None
-}
-
-// Puts the line of an entry into the buffer and answers its length; 0 where there is none, which is said.
-fn line_at<R: Files, E: Write>(
-    files: &R,
-    err: &mut E,
-    logged: &[u8],
-    index: &[u8],
-    buf: &mut [u8],
-    e: Entry,
-) -> usize {
-    let Some(mut log) = exhibits_says::files::log(files, err, logged) else {
-        return 0;
-    };
-    let there = exhibits_walks::lines::at_entry(&mut log, buf, e);
-    match there {
-        There::Line(n) => return n,
-        There::Other => exhibits_says::no_line_of(err, logged, index, e.number),
-        There::Failed(why) => exhibits_says::unread_log(err, logged, why),
-    }
-    0
 }
 
 // Says that the reader refuses an exhibit's line, and why.
 fn say_refused<E: Write>(err: &mut E, exhibit: u64, line: &[u8], no: u8, field: usize) {
-    exhibits_says::counted(
+    let _ = write!(
         err,
-        b"exhibits: exhibit ",
-        exhibit,
-        b" cannot be read: refused ",
+        "exhibits: exhibit {exhibit} cannot be read: refused {no} at field {field}: "
     );
-    exhibits_says::counted(err, b"", no as u64, b" at field ");
-    exhibits_says::counted(err, b"", field as u64, b": ");
     let mut row = [0u8; 400];
     let a = reasons::put_reason(&mut row, 0, line, no, field);
-    let n = put::put(&mut row, a, 10);
+    let n = put::put(&mut row, a, b'\n');
     let _ = turns::flush(err, &row, n);
 }
 
@@ -76,19 +42,14 @@ fn say_refused<E: Write>(err: &mut E, exhibit: u64, line: &[u8], no: u8, field: 
 fn put_fields(out: &mut [u8], kind: u32, numbers: &[i64]) -> usize {
     let a1 = put::put_bytes(out, 0, b"sentence: ");
     let a2 = words::put_kind(out, a1, kind);
-    let a3 = put::put(out, a2, 10);
+    let a3 = put::put(out, a2, b'\n');
     words::put_words(out, a3, kind, numbers)
-}
-
-// Reads a line to the numbers of its record.
-fn read(line: &[u8], numbers: &mut [i64]) -> Told {
-    sentence::read(line, numbers)
 }
 
 // Writes the fields of a line in words, or says why the reader refuses it.
 fn show_fields<W: Write, E: Write>(to: &mut W, err: &mut E, exhibit: u64, line: &[u8]) {
     let mut numbers = [0i64; 33];
-    let told = read(line, &mut numbers);
+    let told = sentence::read(line, &mut numbers);
     if told.no != 0 {
         return say_refused(err, exhibit, line, told.no, told.field);
     }
@@ -102,8 +63,7 @@ fn show_fields<W: Write, E: Write>(to: &mut W, err: &mut E, exhibit: u64, line: 
 // Writes the line of an exhibit, and its fields where they are asked for.
 fn show_line<W: Write, E: Write>(to: &mut W, err: &mut E, exhibit: u64, line: &[u8], fields: bool) {
     if let Err(e) = to.write_all(line) {
-        exhibits_says::no_output(err, e);
-        return;
+        return exhibits_says::no_output(err, e);
     }
     if fields {
         show_fields(to, err, exhibit, line);
@@ -112,114 +72,67 @@ fn show_line<W: Write, E: Write>(to: &mut W, err: &mut E, exhibit: u64, line: &[
 
 // Shows the line of an exhibit, and its fields in words where they are asked for.
 pub fn show<R: Files, W: Write, E: Write>(
-    files: &R,
+    job: &mut Job<R, E>,
     to: &mut W,
-    err: &mut E,
-    logged: &[u8],
-    index: &[u8],
     exhibit: u64,
     fields: bool,
 ) {
-    let Known::Is(e) = seek(files, err, index, exhibit) else {
+    let Some(e) = seek(job, exhibit) else {
+        return;
+    };
+    let Some(mut log) = job.open_log() else {
         return;
     };
     let mut buf = [0u8; 82];
-    let n = line_at(files, err, logged, index, &mut buf, e);
-    if n < 1 {
-        return;
-    }
-    if n <= 82 {
-        show_line(to, err, exhibit, &buf[0..n], fields);
+    match exhibits_walks::lines::at_entry(&mut log, &mut buf, e) {
+        Ok(Some(line)) => show_line(to, &mut job.err, exhibit, line, fields),
+        Ok(None) => job.no_line(exhibit),
+        Err(why) => job.unread_log(why),
     }
 }
 
 // Puts the row of an entry.
 fn put_row(out: &mut [u8], at: usize, e: Entry) -> usize {
     let a1 = text::put_number(out, at, e.number);
-    let a2 = put::put(out, a1, 32);
+    let a2 = put::put(out, a1, b' ');
     let a3 = text::put_number(out, a2, e.offset);
-    let a4 = put::put(out, a3, 32);
+    let a4 = put::put(out, a3, b' ');
     let a5 = text::put_number(out, a4, e.length);
-    put::put(out, a5, 10)
+    put::put(out, a5, b'\n')
 }
 
-// The rows so far: the place behind them in the buffer, and whether those before could be written.
-#[derive(Clone, Copy)]
-struct Rows {
-    place: usize,
-    written: io::Result<()>,
+// Why not all rows are written: the index cannot be gone over, or standard output cannot be written.
+#[derive(Clone, Copy, Debug)]
+enum Trouble {
+    NoIndex(Unread),
+    NoOutput(io::Error),
 }
 
-fn no_rows() -> Rows {
-    Rows {
-        place: 0,
-        written: Ok(()),
-    }
-}
-
-// Whether the next row may not fit into `out` from `place` on.
-fn is_full(out: &[u8], place: usize) -> bool {
-    if out.len() <= place {
-        return true;
-    }
-    out.len() - place < 64
-}
-
-// Puts the row of an entry, and writes the rows where the next may not fit.
-fn add_row<W: Write>(to: &mut W, out: &mut [u8], r: Rows, e: Entry) -> Rows {
-    let place = put_row(out, r.place, e);
-    if is_full(out, place) {
-        let written = turns::flush(to, out, place);
-        return Rows { place: 0, written };
-    }
-    Rows {
-        place,
-        written: Ok(()),
-    }
-}
-
-// Writes the last rows.
-fn end_rows<W: Write, E: Write>(to: &mut W, err: &mut E, out: &[u8], r: Rows) {
-    if let Err(e) = turns::flush(to, out, r.place) {
-        exhibits_says::no_output(err, e);
-    }
-}
-
-// Writes a row for each entry.
-fn list_entries<F: Read, W: Write, E: Write>(
-    to: &mut W,
-    err: &mut E,
-    file: &mut F,
-    index: &[u8],
-    buf: &mut [u8],
-    out: &mut [u8],
-) {
-    let mut walk = exhibits_walks::entries::start();
-    let mut rows = no_rows();
+// Writes a row for each entry, by way of `out`, which holds many rows.
+fn list_entries<F: Read, W: Write>(to: &mut W, entries: &mut Entries<F>) -> Result<(), Trouble> {
+    let mut out = [0u8; 65536];
+    let mut place = 0;
     for _ in 0..u64::MAX {
-        let step = exhibits_walks::entries::next(file, buf, walk);
-        match step {
-            Step::At(on) => {
-                let last = on.last;
-                rows = add_row(to, out, rows, last);
-                walk = on;
-            }
-            Step::End => return end_rows(to, err, out, rows),
-            Step::Bad => return exhibits_says::no_index(err, index),
-            Step::Failed(e) => return exhibits_says::unread_index(err, index, e),
-        }
-        if let Err(e) = rows.written {
-            return exhibits_says::no_output(err, e);
+        let Some(e) = entries.next_entry().map_err(Trouble::NoIndex)? else {
+            return turns::flush(to, &out, place).map_err(Trouble::NoOutput);
+        };
+        place = put_row(&mut out, place, e);
+        if turns::is_full(&out, place, 64) {
+            turns::flush(to, &out, place).map_err(Trouble::NoOutput)?;
+            place = 0;
         }
     }
+    Ok(())
 }
 
 // Writes a row for each entry: exhibit, offset and length. Bytes that are no index have no rows.
-pub fn list<R: Files, W: Write, E: Write>(files: &R, to: &mut W, err: &mut E, index: &[u8]) {
-    let mut buf = [0u8; 65536];
-    let Some(mut file) = exhibits_says::files::whole_index(files, err, index, &mut buf) else {
+pub fn list<R: Files, W: Write, E: Write>(job: &mut Job<R, E>, to: &mut W) {
+    let Some(mut entries) = job.whole_index() else {
         return;
     };
-    let mut out = [0u8; 65536];
-    list_entries(to, err, &mut file, index, &mut buf, &mut out);
+    match list_entries(to, &mut entries) {
+        Ok(()) => {}
+        Err(Trouble::NoIndex(why)) => job.unread_index(why),
+        Err(Trouble::NoOutput(e)) => exhibits_says::no_output(&mut job.err, e),
+    }
 }

@@ -1,181 +1,119 @@
 // An index of any length, gone over in turns.
+ghost use Rattle.std.specs.Prelude.{◌≤◌};
+
 use index::{Entry, Next};
 use std::io;
-use std::io::Read;
+use std::io::{Read, Seek};
 use turns::Came;
 
-// Where going over an index stands: the buffer's bytes from `at` up to `end` come next, and `last` is the entry before them.
+// Why an index cannot be gone over: its bytes are none, or they cannot be read.
+#[derive(Clone, Copy, Debug)]
+pub enum Unread {
+    NoIndex,
+    Failed(io::Error),
+}
+
+impl From<io::Error> for Unread {
+    fn from(e: io::Error) -> Self {
+        Unread::Failed(e)
+    }
+}
+
+// An index and where going over it stands: the bytes of `buf` from `at` up to `end` come next, and `last` is the entry before them.
+#[derive(Drop)]
+pub struct Entries<R> {
+    file: R,
+    buf: [u8; 65536],
+    at: usize,
+    end: usize,
+    last: Entry,
+    ghost inside: { end ≤ 65536 },
+}
+
+// What a whole index ends with, and the entry that was looked for, where it has it.
 #[derive(Clone, Copy)]
-pub struct Walk {
-    pub at: usize,
-    pub end: usize,
-    pub last: Entry,
-}
-
-// What comes next: an entry, which is the last of the walk then; the end of a whole index; bytes that are no index; or a
-// file that cannot be read, and why.
-#[derive(Drop)]
-pub enum Step {
-    At(Walk),
-    End,
-    Bad,
-    Failed(io::Error),
-}
-
-#[derive(Drop)]
-enum More {
-    On(Walk),
-    End,
-    Bad,
-    Failed(io::Error),
-}
-
-pub fn start() -> Walk {
-    Walk {
-        at: 0,
-        end: 0,
-        last: index::origin(),
-    }
-}
-
-// The entry that stands next in the buffer.
-fn entry_in(buf: &[u8], w: Walk) -> Next {
-    let at = w.at;
-    let end = w.end;
-    let last = w.last;
-    if end <= buf.len() {
-        return index::entry_at(&buf[0..end], at, last);
-    }
-    Next::Bad
-}
-
-// The walk behind an entry that ends at `at`.
-fn behind(w: Walk, e: Entry, at: usize) -> Walk {
-    Walk {
-        at,
-        end: w.end,
-        last: e,
-    }
-}
-
-// Keeps the bytes of an entry that is not whole, and reads more behind them. At the end no such bytes may be left.
-fn read_on<R: Read>(from: &mut R, buf: &mut [u8], w: Walk) -> More {
-    let at = w.at;
-    let end = w.end;
-    let last = w.last;
-    let kept = turns::keep(buf, at, end);
-    let came = turns::read_more(from, buf, kept);
-    match came {
-        Came::Bytes(n) => More::On(Walk {
-            at: 0,
-            end: n,
-            last,
-        }),
-        Came::End => {
-            if kept == 0 {
-                return More::End;
-            }
-            More::Bad
-        }
-        Came::Full => More::Bad,
-        Came::Failed(e) => More::Failed(e),
-    }
-}
-
-// The next entry of the index.
-pub fn next<R: Read>(from: &mut R, buf: &mut [u8], w: Walk) -> Step {
-    let mut walk = w;
-    for _ in 0..u64::MAX {
-        let there = entry_in(buf, walk);
-        match there {
-            Next::Is(e, at) => return Step::At(behind(walk, e, at)),
-            Next::Short => {}
-            Next::Bad => return Step::Bad,
-        }
-        let more = read_on(from, buf, walk);
-        match more {
-            More::On(on) => walk = on,
-            More::End => return Step::End,
-            More::Bad => return Step::Bad,
-            More::Failed(e) => return Step::Failed(e),
-        }
-    }
-    Step::Bad
-}
-
-// What going over a whole index comes to: it is whole, it is no index, or it cannot be read, and why.
-#[derive(Drop)]
-pub enum Ended {
-    Whole,
-    Bad,
-    Failed(io::Error),
-}
-
-// The same with the last entry, and the entry of the exhibit that was looked for, where it was found.
-#[derive(Drop)]
 pub struct Scanned {
-    pub ended: Ended,
     pub last: Entry,
-    pub found: bool,
-    pub sought: Entry,
+    pub sought: Option<Entry>,
 }
 
-fn nothing() -> Scanned {
-    let last = index::origin();
-    Scanned {
-        ended: Ended::Whole,
-        last,
-        found: false,
-        sought: last,
-    }
-}
-
-fn with_end(s: Scanned, ended: Ended) -> Scanned {
-    let last = s.last;
-    let sought = s.sought;
-    Scanned {
-        ended,
-        last,
-        found: s.found,
-        sought,
-    }
-}
-
-// The scan behind the entry `e`.
-fn behind_entry(s: Scanned, e: Entry, number: u64) -> Scanned {
-    if e.number == number {
-        return Scanned {
-            ended: Ended::Whole,
-            last: e,
-            found: true,
-            sought: e,
-        };
-    }
-    let sought = s.sought;
-    Scanned {
-        ended: Ended::Whole,
-        last: e,
-        found: s.found,
-        sought,
-    }
-}
-
-// Goes over the whole index and looks for the exhibit with a number.
-pub fn scan<R: Read>(from: &mut R, buf: &mut [u8], number: u64) -> Scanned {
-    let mut s = nothing();
-    let mut walk = start();
-    for _ in 0..u64::MAX {
-        let step = next(from, buf, walk);
-        match step {
-            Step::At(on) => {
-                let last = on.last;
-                s = behind_entry(s, last, number);
-                walk = on;
-            }
-            Step::End => return s,
-            Step::Bad => return with_end(s, Ended::Bad),
-            Step::Failed(e) => return with_end(s, Ended::Failed(e)),
+impl<R: Read> Entries<R> {
+    pub fn new(file: R) -> Self {
+        Entries {
+            file,
+            buf: [0; 65536],
+            at: 0,
+            end: 0,
+            last: index::origin(),
         }
     }
-    s
+
+    // Keeps the bytes of an entry that is not whole, reads more behind them, and answers whether any came. At the end no such bytes may
+    // be left.
+    fn read_on(&mut self) -> Result<bool, Unread> {
+        let kept = turns::keep(&mut self.buf, self.at, self.end);
+        self.at = 0;
+        self.end = kept;
+        match turns::read_more(&mut self.file, &mut self.buf, kept)? {
+            Came::Bytes(end) => {
+                self.end = end;
+                Ok(true)
+            }
+            Came::End if kept == 0 => Ok(false),
+            Came::End | Came::Full => Err(Unread::NoIndex),
+        }
+    }
+
+    // The next entry of the index; none at its end. Nobody proves that a file ends: the reads are counted down from a number that no run
+    // uses up.
+    pub fn next_entry(&mut self) -> Result<Option<Entry>, Unread> {
+        for _ in 0..u64::MAX {
+            match index::entry_at(&self.buf[..self.end], self.at, self.last) {
+                Next::Is(e, at) => {
+                    self.at = at;
+                    self.last = e;
+                    return Ok(Some(e));
+                }
+                Next::Short => {}
+                Next::Bad => return Err(Unread::NoIndex),
+            }
+            if !self.read_on()? {
+                return Ok(None);
+            }
+        }
+        Err(Unread::NoIndex)
+    }
+
+    // Goes over the whole index and looks for the exhibit with a number.
+    pub fn scan(&mut self, number: u64) -> Result<Scanned, Unread> {
+        let mut sought = None;
+        for _ in 0..u64::MAX {
+            let Some(e) = self.next_entry()? else {
+                break;
+            };
+            if e.number == number {
+                sought = Some(e);
+            }
+        }
+        Ok(Scanned {
+            last: self.last,
+            sought,
+        })
+    }
+}
+
+impl<F: Read + Seek> Entries<F> {
+    // Back to the beginning of the index.
+    pub fn rewind(&mut self) -> io::Result<()> {
+        self.file.rewind()?;
+        self.at = 0;
+        self.end = 0;
+        self.last = index::origin();
+        Ok(())
+    }
+
+    // How many bytes of the file were read.
+    pub fn position(&mut self) -> io::Result<u64> {
+        self.file.stream_position()
+    }
 }

@@ -1,156 +1,116 @@
 // A log of any length, gone over in turns: its lines one after another, and the line at an offset.
-use crate::sum;
+ghost use Rattle.std.specs.Prelude.{◌≡◌, ◌+◌, ◌≤◌, length};
+
 use finder::Found;
 use index::Entry;
 use std::io;
 use std::io::{Read, Seek, SeekFrom};
 use turns::Came;
 
-// Where going over a log stands: the buffer holds the log's bytes from `base` on up to its place `end`, the next line is
-// looked for from `at` on, and `lines` were found before.
-#[derive(Clone, Copy)]
-pub struct Walk {
-    pub at: usize,
-    pub end: usize,
-    pub base: u64,
-    pub lines: u64,
-}
-
-// What comes next: a line as the entry whose exhibit number is the line's own; the end, with how many lines there were;
-// or a log that cannot be read, and why.
+// A log and where going over it stands: `buf` holds the log's bytes from the offset `base` on up to its place `end`. The line that was
+// found last lies from `start` up to `at`, where the next one is looked for, and `count` were found so far.
 #[derive(Drop)]
-pub enum Step {
-    Line(Walk, Entry),
-    End(u64),
-    Failed(io::Error),
+pub struct Lines<R> {
+    log: R,
+    buf: [u8; 65536],
+    start: usize,
+    at: usize,
+    end: usize,
+    base: u64,
+    pub count: u64,
+    ghost found: { start ≤ at },
+    ghost ahead: { at ≤ end },
+    ghost inside: { end ≤ 65536 },
 }
 
-#[derive(Drop)]
-enum More {
-    On(Walk),
-    End,
-    Failed(io::Error),
-}
-
-pub fn start() -> Walk {
-    Walk {
-        at: 0,
-        end: 0,
-        base: 0,
-        lines: 0,
-    }
-}
-
-// `a` less `b`, or 0 where `b` is more.
-fn less(a: usize, b: usize) -> usize {
-    if b <= a {
-        return a - b;
-    }
-    0
-}
-
-// The next line of the bytes that are in the buffer.
-fn find_in(buf: &[u8], w: Walk) -> Found {
-    let at = w.at;
-    let end = w.end;
-    if end <= buf.len() {
-        return finder::next_line(&buf[0..end], at);
-    }
-    finder::next_line(buf, at)
-}
-
-// The step to a line that was found.
-fn step_to(w: Walk, found: Found) -> Step {
-    let lines = sum(w.lines, 1);
-    let next = Walk {
-        at: found.end,
-        end: w.end,
-        base: w.base,
-        lines,
-    };
-    let entry = Entry {
-        number: lines,
-        offset: sum(w.base, found.start as u64),
-        length: less(found.end, found.start) as u64,
-    };
-    Step::Line(next, entry)
-}
-
-// Keeps the bytes from `from` on, and reads more behind them.
-fn read_on<R: Read>(log: &mut R, buf: &mut [u8], w: Walk, from: usize) -> More {
-    let end = w.end;
-    let kept = turns::keep(buf, from, end);
-    let came = turns::read_more(log, buf, kept);
-    match came {
-        Came::Bytes(n) => More::On(Walk {
+impl<R: Read> Lines<R> {
+    pub fn new(log: R) -> Self {
+        Lines {
+            log,
+            buf: [0; 65536],
+            start: 0,
             at: 0,
-            end: n,
-            base: sum(w.base, from as u64),
-            lines: w.lines,
-        }),
-        Came::End => More::End,
-        Came::Full => More::End,
-        Came::Failed(e) => More::Failed(e),
-    }
-}
-
-// The next line of the log. The reads are counted down from a number that no run uses up, so that the loop ends.
-pub fn next<R: Read>(log: &mut R, buf: &mut [u8], w: Walk) -> Step {
-    let mut walk = w;
-    for _ in 0..u64::MAX {
-        let found = find_in(buf, walk);
-        if found.line {
-            return step_to(walk, found);
-        }
-        let more = read_on(log, buf, walk, found.start);
-        match more {
-            More::On(on) => walk = on,
-            More::End => return Step::End(walk.lines),
-            More::Failed(e) => return Step::Failed(e),
+            end: 0,
+            base: 0,
+            count: 0,
         }
     }
-    Step::End(walk.lines)
-}
 
-// The line with a number, from where `w` stands on.
-pub fn line<R: Read>(log: &mut R, buf: &mut [u8], w: Walk, number: u64) -> Step {
-    let mut walk = w;
-    for _ in 0..u64::MAX {
-        let step = next(log, buf, walk);
-        match step {
-            Step::Line(on, e) => {
-                if e.number == number {
-                    return Step::Line(on, e);
-                }
-                walk = on;
+    // The bytes of the line that was found last.
+    pub fn line(&self) -> &[u8]
+        ensures { length result.now + self.now.start ≡ self.now.at }
+    {
+        &self.buf[self.start..self.at]
+    }
+
+    // The next line of the bytes that are in the buffer.
+    fn find(&self) -> Found
+        ensures order { result.start ≤ result.end }
+        ensures inside { result.end ≤ self.now.end }
+    {
+        finder::next_line(&self.buf[..self.end], self.at)
+    }
+
+    // Goes on behind a line that was found, and answers its entry.
+    fn take(&mut self, found: Found) -> Entry
+        requires order { found.start ≤ found.end }
+        requires inside { found.end ≤ self.old.end }
+    {
+        self.start = found.start;
+        self.at = found.end;
+        self.count = self.count.saturating_add(1);
+        Entry {
+            number: self.count,
+            offset: self.base.saturating_add(found.start as u64),
+            length: (found.end - found.start) as u64,
+        }
+    }
+
+    // Keeps the bytes from `from` on, reads more behind them, and answers whether any came.
+    fn read_on(&mut self, from: usize) -> io::Result<bool> {
+        let kept = turns::keep(&mut self.buf, from, self.end);
+        self.start = 0;
+        self.at = 0;
+        self.end = kept;
+        self.base = self.base.saturating_add(from as u64);
+        let Came::Bytes(end) = turns::read_more(&mut self.log, &mut self.buf, kept)? else {
+            return Ok(false);
+        };
+        self.end = end;
+        Ok(true)
+    }
+
+    // The next line of the log, as the entry whose exhibit number is the line's own; none at the end. Nobody proves that a log ends: the
+    // reads are counted down from a number that no run uses up.
+    pub fn next_line(&mut self) -> io::Result<Option<Entry>> {
+        for _ in 0..u64::MAX {
+            let found = self.find();
+            if found.line {
+                return Ok(Some(self.take(found)));
             }
-            Step::End(lines) => return Step::End(lines),
-            Step::Failed(e) => return Step::Failed(e),
+            if !self.read_on(found.start)? {
+                break;
+            }
         }
+        Ok(None)
     }
-    Step::End(walk.lines)
-}
 
-// What stands in the log where an entry says: a line, which is in the buffer then; no line; or bytes that cannot be read, and why.
-#[derive(Drop)]
-pub enum There {
-    Line(usize),
-    Other,
-    Failed(io::Error),
+    // The line with a number, from here on.
+    pub fn find_line(&mut self, number: u64) -> io::Result<Option<Entry>> {
+        for _ in 0..u64::MAX {
+            match self.next_line()? {
+                Some(e) if e.number != number => {}
+                found => return Ok(found),
+            }
+        }
+        Ok(None)
+    }
 }
 
 // Whether all of `s` is one line that the finder gives out.
 fn is_line(s: &[u8]) -> bool {
     let found = finder::next_line(s, 0);
-    found.line & ((found.start == 0) & (found.end == s.len()))
-}
-
-// Whether the first `n` bytes of the buffer are one line.
-fn is_line_of(buf: &[u8], n: usize) -> bool {
-    if n <= buf.len() {
-        return is_line(&buf[0..n]);
-    }
-    false
+    found.line && found.start == 0 && found.end == s.len()
 }
 
 // Reads once from an offset on.
@@ -159,25 +119,20 @@ fn read_at<F: Read + Seek>(log: &mut F, buf: &mut [u8], offset: u64) -> io::Resu
     log.read(buf)
 }
 
-// Reads the bytes of an entry's line by one read.
-pub fn at_entry<F: Read + Seek>(log: &mut F, buf: &mut [u8], e: Entry) -> There {
-    if 4294967295 < e.offset {
-        return There::Other;
+// The line that stands in the log where an entry says, read into `buf` by one read; none where these bytes are no line.
+pub fn at_entry<'a, F: Read + Seek>(
+    log: &mut F,
+    buf: &'a mut [u8],
+    e: Entry,
+) -> io::Result<Option<&'a [u8]>> {
+    if 4294967295 < e.offset || (buf.len() as u64) < e.length {
+        return Ok(None);
     }
-    if (buf.len() as u64) < e.length {
-        return There::Other;
-    }
-    let n = e.length as usize;
-    match read_at(log, &mut buf[0..n], e.offset) {
-        Err(why) => return There::Failed(why),
-        Ok(got) => {
-            if got != n {
-                return There::Other;
-            }
-        }
-    }
-    if is_line_of(buf, n) {
-        return There::Line(n);
-    }
-    There::Other
+    let line = &mut buf[..e.length as usize];
+    let n = read_at(log, line, e.offset)?;
+    Ok(if n == line.len() && is_line(line) {
+        Some(line)
+    } else {
+        None
+    })
 }

@@ -31,3 +31,6 @@ field_place l n = cond (eqb (field_no l n) 0) (start_of n (fields_of (body_of l)
 -- Field n: its number, and where it starts and ends in the line; refused, from 0 up to 0.
 abbrev pub field_at : List ℕ → ℕ → Field
 field_at l n = record { no = field_no l n; start = field_place l n; end = field_place l n + length (field_bytes l n) }
+
+abbrev pub refused : ℕ → Field
+refused n = record { no = n; start = 0; end = 0 }

@@ -7,8 +7,8 @@ ghost use Rattle.finder.specs.Slice.{found_at};
 ghost use Rattle.finder.specs.Until.{held_in, ended_in, reach_of};
 
 // The finder after a byte: how many bytes it holds, and the length of the line that this byte
-// ends, 0 where it ends none. The caller holds the bytes themselves.
-#[derive(Clone, Copy)]
+// ends, 0 where it ends none. The caller holds the bytes themselves. A host of C is handed both numbers as they stand.
+#[derive(Clone, Copy, PartialEq, Eq, Debug)]
 pub struct Fed {
     pub held: usize,
     pub line: usize,
@@ -21,10 +21,7 @@ pub fn feed(held: usize, b: u8) -> Fed
     if b == b'$' {
         return Fed { held: 1, line: 0 };
     }
-    if held < 1 {
-        return Fed { held: 0, line: 0 };
-    }
-    if 81 < held {
+    if held < 1 || 81 < held {
         return Fed { held: 0, line: 0 };
     }
     if b == b'\n' {
@@ -44,8 +41,9 @@ pub fn feed(held: usize, b: u8) -> Fed
 
 // The first line of a slice from a place on: where it starts and ends. Where there is none, `line` is false,
 // `end` is the end of the slice, or the place itself where that lies beyond it, and an unfinished line begins at
-// `start`, which is `end` where nothing is unfinished.
-#[derive(Clone, Copy)]
+// `start`, which is `end` where nothing is unfinished. Both places say something where there is no line, and a host of C is handed all
+// three, so this is no Option.
+#[derive(Clone, Copy, PartialEq, Eq, Debug)]
 pub struct Found {
     pub line: bool,
     pub start: usize,
@@ -89,11 +87,9 @@ pub fn next_line(s: &[u8], at: usize) -> Found
     ensures { result ≡ found_at s.now at }
 {
     let mut until: usize = 0;
-    let mut i = at;
-    while i < s.len() {
+    for i in at..s.len() {
         let b = s[i];
         if b'$' < b {
-            i += 1;
             continue;
         }
         let n = ended_in(until, i, b);
@@ -105,11 +101,11 @@ pub fn next_line(s: &[u8], at: usize) -> Found
             };
         }
         until = reach(until, i + 82, b);
-        i += 1;
     }
+    let end = at.max(s.len());
     Found {
         line: false,
-        start: i - held_in(until, i),
-        end: i,
+        start: end - held_in(until, end),
+        end,
     }
 }

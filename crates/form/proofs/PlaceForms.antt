@@ -2,7 +2,7 @@
 use Prim.Native.Nat.{◌≤◌, ℕ}
 use mathlib.Core.Bool.{Bool, cond, false, true}
 use mathlib.Core.List.{[], List}
-use mathlib.Core.Option.{none, Option, some}
+use Rattle.std.specs.Prelude.{None, Option, Some}
 use mathlib.Core.Path.{◌≡◌, ap, refl}
 use lib.Dec.{eqb, lit≤}
 use lib.IntN.{ℤ}
@@ -21,8 +21,8 @@ use Rattle.numbers.specs.Layout.{Layout}
 
 -- What one field reads as names no other field; an empty one reads where it may be empty.
 pub got-most : (o : Option ℕ) → (got_of o).wrong ≤ 1
-got-most none = lit≤ tt
-got-most (some v) = lit≤ tt
+got-most None = lit≤ tt
+got-most (Some v) = lit≤ tt
 
 pub maybe-most : (f : List ℕ) (o : Option ℕ) → (maybe_of f o).wrong ≤ 1
 unfolding maybe_of
@@ -38,8 +38,8 @@ int-most f o = go (eqb (length f) 0) o
   where
     go : (t : Bool) (q : Option ℤ) → (pick t missing_int (got_int_of q)).wrong ≤ 1
     go true q = lit≤ tt
-    go false none = lit≤ tt
-    go false (some z) = lit≤ tt
+    go false None = lit≤ tt
+    go false (Some z) = lit≤ tt
 
 maybe-empty : (o : Option ℕ) → (maybe_of [] o).wrong ≡ 0
 unfolding maybe_of
@@ -59,7 +59,7 @@ module _ {X : Type 0} {most : ℕ} {layout : Layout X} {fault : X → ℕ} {text
       → PrefixForm (of_one most layout (λ s. maybe_int_of s (form s)) (λ g. g.wrong) value fault text)
   prefix-maybe-int form = prefix-single (λ s. maybe_int_of s (form s)) (λ s. int-most s (form s)) [] tt (int-empty (form []))
 
-  pub prefix-told : (form : List ℕ → Option ℕ) {value : Got → X} (s : List ℕ) {v : ℕ} → Clean s → form s ≡ some v
+  pub prefix-told : (form : List ℕ → Option ℕ) {value : Got → X} (s : List ℕ) {v : ℕ} → Clean s → form s ≡ Some v
       → PrefixForm (of_one most layout (λ t. got_of (form t)) (λ g. g.wrong) value fault text)
   prefix-told form s c e = prefix-single (λ t. got_of (form t)) (λ t. got-most (form t)) s c (ap (λ (o : Option ℕ). (got_of o).wrong) e)
 

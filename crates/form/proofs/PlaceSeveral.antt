@@ -3,7 +3,7 @@
 use Prim.Native.Nat.{◌-◌, ◌<◌, ◌≤◌, suc, zero, ℕ}
 use mathlib.Core.Bool.{Bool, false, true}
 use mathlib.Core.List.{[], ◌∷◌, List}
-use mathlib.Core.Option.{none, Option, some}
+use Rattle.std.specs.Prelude.{None, Option, Some}
 use mathlib.Core.Path.{◌∙◌, ◌≡◌, ap, refl}
 use native.Mathlib.Omega.{arith}
 use lib.Dec.{eqb, ltb}
@@ -20,8 +20,8 @@ empty f = eqb (length f) 0
 -- A field that is neither empty nor read.
 abbrev pub unread : Bool → Option ℕ → Bool
 unread true o = false
-unread false none = true
-unread false (some v) = false
+unread false None = true
+unread false (Some v) = false
 
 -- Fields of which those from the k-th on are put.
 abbrev pub put : (ℕ → List ℕ) → ℕ → List (List ℕ) → ℕ → List ℕ

@@ -3,7 +3,7 @@ use Prim.Native.Nat.{◌≤◌, suc, zero, ℕ}
 use mathlib.Core.Bool.{Bool, false, true}
 use mathlib.Core.List.{[], ◌∷◌, List}
 use mathlib.Core.Logic.{◌⊎◌, inl, inr}
-use mathlib.Core.Option.{none, Option, some}
+use Rattle.std.specs.Prelude.{None, Option, Some}
 use mathlib.Core.Path.{◌≡◌, refl}
 use native.Mathlib.Omega.{arith}
 use lib.Dec.{eqb}
@@ -36,7 +36,7 @@ zero-outside = refl
 
 -- A field that may be empty: what it reads where it is not is in a range, and its text is no longer than it.
 module _ (form : List ℕ → Option ℕ) (text : ℕ → List ℕ) (lo hi : ℕ) where
-  pub maybe-in : ((f : List ℕ) (v : ℕ) → form f ≡ some v → (lo ≤ v) × (v ≤ hi)) → (f : List ℕ) → (maybe_of f (form f)).wrong ≡ 0
+  pub maybe-in : ((f : List ℕ) (v : ℕ) → form f ≡ Some v → (lo ≤ v) × (v ≤ hi)) → (f : List ℕ) → (maybe_of f (form f)).wrong ≡ 0
       → range_wrong lo hi (maybe_of f (form f)).there (maybe_of f (form f)).value ≡ 0
   unfolding maybe_of range_wrong
   maybe-in is f e = go (eqb (length f) 0) (form f) refl e
@@ -44,10 +44,10 @@ module _ (form : List ℕ → Option ℕ) (text : ℕ → List ℕ) (lo hi : ℕ
       go : (t : Bool) (o : Option ℕ) → form f ≡ o → (pick t missing (got_of o)).wrong ≡ 0
           → range_wrong lo hi (pick t missing (got_of o)).there (pick t missing (got_of o)).value ≡ 0
       go true o q i = zero-outside
-      go false none q i = let z : ⊥ = omega arith in absurd z
-      go false (some v) q i = let r = is f v q in in-outside lo hi v r.0 r.1
+      go false None q i = let z : ⊥ = omega arith in absurd z
+      go false (Some v) q i = let r = is f v q in in-outside lo hi v r.0 r.1
 
-  pub maybe-short : ((f : List ℕ) (v : ℕ) → form f ≡ some v → length (text v) ≤ length f) → (f : List ℕ) → (maybe_of f (form f)).wrong ≡ 0
+  pub maybe-short : ((f : List ℕ) (v : ℕ) → form f ≡ Some v → length (text v) ≤ length f) → (f : List ℕ) → (maybe_of f (form f)).wrong ≡ 0
       → length (if_there (maybe_of f (form f)).there (text (maybe_of f (form f)).value)) ≤ length f
   unfolding maybe_of
   maybe-short is f e = go (eqb (length f) 0) (form f) refl e
@@ -55,11 +55,11 @@ module _ (form : List ℕ → Option ℕ) (text : ℕ → List ℕ) (lo hi : ℕ
       go : (t : Bool) (o : Option ℕ) → form f ≡ o → (pick t missing (got_of o)).wrong ≡ 0
           → length (if_there (pick t missing (got_of o)).there (text (pick t missing (got_of o)).value)) ≤ length f
       go true o q i = omega arith
-      go false none q i = let z : ⊥ = omega arith in absurd z
-      go false (some v) q i = is f v q
+      go false None q i = let z : ⊥ = omega arith in absurd z
+      go false (Some v) q i = is f v q
 
 module _ (form : List ℕ → Option ℤ) (text : ℤ → List ℕ) (hi : ℕ) where
-  pub maybe-int-in : ((f : List ℕ) (z : ℤ) → form f ≡ some z → nat_abs z ≤ hi) → (f : List ℕ) → (maybe_int_of f (form f)).wrong ≡ 0
+  pub maybe-int-in : ((f : List ℕ) (z : ℤ) → form f ≡ Some z → nat_abs z ≤ hi) → (f : List ℕ) → (maybe_int_of f (form f)).wrong ≡ 0
       → signed_wrong hi (maybe_int_of f (form f)).there (maybe_int_of f (form f)).value ≡ 0
   unfolding maybe_int_of signed_wrong range_wrong
   maybe-int-in is f e = go (eqb (length f) 0) (form f) refl e
@@ -67,10 +67,10 @@ module _ (form : List ℕ → Option ℤ) (text : ℤ → List ℕ) (hi : ℕ) w
       go : (t : Bool) (o : Option ℤ) → form f ≡ o → (pick t missing_int (got_int_of o)).wrong ≡ 0
           → signed_wrong hi (pick t missing_int (got_int_of o)).there (pick t missing_int (got_int_of o)).value ≡ 0
       go true o q i = zero-outside
-      go false none q i = let z : ⊥ = omega arith in absurd z
-      go false (some z) q i = in-outside 0 hi (nat_abs z) (omega arith) (is f z q)
+      go false None q i = let z : ⊥ = omega arith in absurd z
+      go false (Some z) q i = in-outside 0 hi (nat_abs z) (omega arith) (is f z q)
 
-  pub maybe-int-short : ((f : List ℕ) (z : ℤ) → form f ≡ some z → length (text z) ≤ length f) → (f : List ℕ)
+  pub maybe-int-short : ((f : List ℕ) (z : ℤ) → form f ≡ Some z → length (text z) ≤ length f) → (f : List ℕ)
       → (maybe_int_of f (form f)).wrong ≡ 0
       → length (if_there (maybe_int_of f (form f)).there (text (maybe_int_of f (form f)).value)) ≤ length f
   unfolding maybe_int_of
@@ -79,26 +79,26 @@ module _ (form : List ℕ → Option ℤ) (text : ℤ → List ℕ) (hi : ℕ) w
       go : (t : Bool) (o : Option ℤ) → form f ≡ o → (pick t missing_int (got_int_of o)).wrong ≡ 0
           → length (if_there (pick t missing_int (got_int_of o)).there (text (pick t missing_int (got_int_of o)).value)) ≤ length f
       go true o q i = omega arith
-      go false none q i = let z : ⊥ = omega arith in absurd z
-      go false (some z) q i = is f z q
+      go false None q i = let z : ⊥ = omega arith in absurd z
+      go false (Some z) q i = is f z q
 
 -- A field that is never empty.
 module _ (form : List ℕ → Option ℕ) (text : ℕ → List ℕ) (lo hi : ℕ) where
-  pub told_in : ((f : List ℕ) (v : ℕ) → form f ≡ some v → (lo ≤ v) × (v ≤ hi)) → (f : List ℕ) → (got_of (form f)).wrong ≡ 0
+  pub told_in : ((f : List ℕ) (v : ℕ) → form f ≡ Some v → (lo ≤ v) × (v ≤ hi)) → (f : List ℕ) → (got_of (form f)).wrong ≡ 0
       → outside lo hi (got_of (form f)).value ≡ 0
   told_in is f e = go (form f) refl e
     where
       go : (o : Option ℕ) → form f ≡ o → (got_of o).wrong ≡ 0 → outside lo hi (got_of o).value ≡ 0
-      go none q i = let z : ⊥ = omega arith in absurd z
-      go (some v) q i = let r = is f v q in in-outside lo hi v r.0 r.1
+      go None q i = let z : ⊥ = omega arith in absurd z
+      go (Some v) q i = let r = is f v q in in-outside lo hi v r.0 r.1
 
-  pub told-short : ((f : List ℕ) (v : ℕ) → form f ≡ some v → length (text v) ≤ length f) → (f : List ℕ) → (got_of (form f)).wrong ≡ 0
+  pub told-short : ((f : List ℕ) (v : ℕ) → form f ≡ Some v → length (text v) ≤ length f) → (f : List ℕ) → (got_of (form f)).wrong ≡ 0
       → length (text (got_of (form f)).value) ≤ length f
   told-short is f e = go (form f) refl e
     where
       go : (o : Option ℕ) → form f ≡ o → (got_of o).wrong ≡ 0 → length (text (got_of o).value) ≤ length f
-      go none q i = let z : ⊥ = omega arith in absurd z
-      go (some v) q i = is f v q
+      go None q i = let z : ⊥ = omega arith in absurd z
+      go (Some v) q i = is f v q
 
 -- Heights: minus zero is written without its minus.
 pub signed-size : (v : ℕ) → nat_abs (signed true v) ≡ v

@@ -2,7 +2,7 @@
 use Prim.Native.Nat.{◌≤◌, ℕ}
 use mathlib.Core.Bool.{◌&&◌, Bool, cond, false, true}
 use mathlib.Core.List.{[], List}
-use mathlib.Core.Option.{Option, some}
+use Rattle.std.specs.Prelude.{Option, Some}
 use mathlib.Core.Path.{◌≡◌, ap, refl, sym}
 use native.Mathlib.Omega.{arith}
 use lib.Dec.{leb}
@@ -39,7 +39,7 @@ no_size (pos n) e = ap pos e
 no_size (negsuc n) e = let z : ⊥ = omega arith in absurd z
 
 -- A field that may be empty, by what it reads where it is not.
-module _ (form : List ℕ → Option ℕ) (text : ℕ → List ℕ) (lo hi : ℕ) (reads : (v : ℕ) → lo ≤ v → v ≤ hi → form (text v) ≡ some v)
+module _ (form : List ℕ → Option ℕ) (text : ℕ → List ℕ) (lo hi : ℕ) (reads : (v : ℕ) → lo ≤ v → v ≤ hi → form (text v) ≡ Some v)
     (filled : (v : ℕ) → lo ≤ v → v ≤ hi → length (text v) ≡ 0 → ⊥) where
   pub maybe_back : (there : Bool) (v : ℕ) → range_wrong lo hi there v ≡ 0
       → maybe_of (if_there there (text v)) (form (if_there there (text v))) ≡ the_got there v
@@ -47,7 +47,7 @@ module _ (form : List ℕ → Option ℕ) (text : ℕ → List ℕ) (lo hi : ℕ
   maybe_back true v e = let i = inside lo hi v e in rw (ne_eqb (length (text v)) 0 (filled v i.0 i.1), reads v i.0 i.1)
   maybe_back false v e = let i = inside 0 0 v e in let q : 0 ≡ v = omega (arith, i.1) in ap (the_got false) q
 
-module _ (form : List ℕ → Option ℤ) (text : ℤ → List ℕ) (hi : ℕ) (reads : (z : ℤ) → nat_abs z ≤ hi → form (text z) ≡ some z)
+module _ (form : List ℕ → Option ℤ) (text : ℤ → List ℕ) (hi : ℕ) (reads : (z : ℤ) → nat_abs z ≤ hi → form (text z) ≡ Some z)
     (filled : (z : ℤ) → nat_abs z ≤ hi → length (text z) ≡ 0 → ⊥) where
   pub maybe-int-back : (there : Bool) (z : ℤ) → signed_wrong hi there z ≡ 0
       → maybe_int_of (if_there there (text z)) (form (if_there there (text z))) ≡ the_got_int there z

@@ -1,13 +1,10 @@
 // What a form reads of its fields.
 ghost use Rattle.std.specs.Prelude.{◌≡◌};
-ghost use Rattle.digits.specs.Means.{num};
 ghost use Rattle.form.specs.Got.{got_of, maybe_of, within_of};
 
-use digits::Num;
-
 // Which of the fields is wrong, counted from 1, or 0 for none; where none is, whether the value was sent, that is, not all
-// of its fields are empty; and the value, 0 where it is missing or wrong.
-#[derive(Clone, Copy)]
+// of its fields are empty; and the value, 0 where it is missing or wrong. The default is a value that is missing.
+#[derive(Clone, Copy, Default)]
 pub struct Got {
     pub wrong: u8,
     pub there: bool,
@@ -15,7 +12,7 @@ pub struct Got {
 }
 
 // The same of a value with a sign.
-#[derive(Clone, Copy)]
+#[derive(Clone, Copy, Default)]
 pub struct GotInt {
     pub wrong: u8,
     pub there: bool,
@@ -23,16 +20,16 @@ pub struct GotInt {
 }
 
 // A field that is never empty: the value read, or wrong.
-pub fn told(n: Num) -> Got
-    ensures { result ≡ got_of (num n) }
+pub fn told(n: Option<u32>) -> Got
+    ensures { result ≡ got_of n }
 {
     match n {
-        Num::Is(value) => Got {
+        Some(value) => Got {
             wrong: 0,
             there: true,
             value,
         },
-        Num::Bad => Got {
+        None => Got {
             wrong: 1,
             there: true,
             value: 0,
@@ -41,31 +38,18 @@ pub fn told(n: Num) -> Got
 }
 
 // A field that may be empty, and is then missing.
-pub fn maybe(f: &[u8], n: Num) -> Got
-    ensures { result ≡ maybe_of f.now (num n) }
+pub fn maybe(f: &[u8], n: Option<u32>) -> Got
+    ensures { result ≡ maybe_of f.now n }
 {
-    if f.len() == 0 {
-        return Got {
-            wrong: 0,
-            there: false,
-            value: 0,
-        };
+    if f.is_empty() {
+        return Got::default();
     }
     told(n)
 }
 
-// A number from `lo` to `hi`; any other is bad.
-pub fn within(n: Num, lo: u32, hi: u32) -> Num
-    ensures { num result ≡ within_of lo hi (num n) }
+// A number from `lo` to `hi`; any other is none.
+pub fn within(n: Option<u32>, lo: u32, hi: u32) -> Option<u32>
+    ensures { result ≡ within_of lo hi n }
 {
-    let Num::Is(v) = n else {
-        return Num::Bad;
-    };
-    if v < lo {
-        return Num::Bad;
-    }
-    if hi < v {
-        return Num::Bad;
-    }
-    Num::Is(v)
+    n.filter(|v| (lo..=hi).contains(v))
 }

@@ -6,12 +6,14 @@ ghost use Rattle.form.specs.Wrong.{near_of};
 use crate::Maybe;
 use crate::got::{Got, GotInt};
 
-pub fn kept(g: Got) -> Maybe
-    ensures { result ≡ kept_of g }
-{
-    Maybe {
-        there: g.there,
-        value: g.value,
+impl From<Got> for Maybe {
+    ghost from_gives = { λ g m. m ≡ kept_of g };
+
+    fn from(g: Got) -> Maybe {
+        Maybe {
+            there: g.there,
+            value: g.value,
+        }
     }
 }
 
@@ -31,7 +33,7 @@ pub fn kept_if(there: bool, g: Got) -> Maybe
     ensures { result ≡ kept_if there g }
 {
     if there {
-        return kept(g);
+        return g.into();
     }
     Maybe {
         there: false,

@@ -5,6 +5,7 @@ pub mod from_numbers;
 pub mod got;
 pub mod keep;
 pub mod range;
+pub mod sent;
 pub mod text;
 pub mod unit;
 

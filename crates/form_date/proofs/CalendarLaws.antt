@@ -2,7 +2,7 @@
 use Prim.Native.Nat.{◌%◌, ◌+◌, ◌<◌, ◌≤◌, ℕ}
 use mathlib.Core.Bool.{◌&&◌, ◌||◌, Bool, cond, false, true}
 use mathlib.Core.List.{◌++◌, append-nil, List}
-use mathlib.Core.Option.{none, Option, map, some}
+use Rattle.std.specs.Prelude.{None, Option, option_map, Some}
 use mathlib.Core.Path.{◌∙◌, ◌≡◌, ap, refl, sym}
 use native.Mathlib.Omega.{arith}
 use lib.Dec.{eqb, leb, lit≤, ltb}
@@ -36,10 +36,10 @@ pick-sound false x y p q = q
 
 at-sound : (a b c : ℕ) (d m y : Option ℕ) → Sound (date_at a b c d m y)
 unfolding date_at
-at-sound a b c none m y = no-sound a
-at-sound a b c (some d) none y = no-sound b
-at-sound a b c (some d) (some m) none = no-sound c
-at-sound a b c (some d) (some m) (some y) = pick-sound (is_date d m y) (the_date d m y) (no_date c) (λ p e. p) (no-sound c)
+at-sound a b c None m y = no-sound a
+at-sound a b c (Some d) None y = no-sound b
+at-sound a b c (Some d) (Some m) None = no-sound c
+at-sound a b c (Some d) (Some m) (Some y) = pick-sound (is_date d m y) (the_date d m y) (no_date c) (λ p e. p) (no-sound c)
 
 -- What RMC's field gives.
 pub six-sound : (f : List ℕ) → Sound (date_six f)
@@ -59,20 +59,20 @@ not_there n d m y e = absurd (true-false refl (sym (ap (λ (r : GotDate). r.ther
 
 -- The parts of a date that is there were read, and it exists.
 parts : (a b c : ℕ) (od om oy : Option ℕ) (d m y : ℕ) → date_at a b c od om oy ≡ the_date d m y
-    → (od ≡ some d) × ((om ≡ some m) × ((oy ≡ some y) × (is_date d m y ≡ true)))
+    → (od ≡ Some d) × ((om ≡ Some m) × ((oy ≡ Some y) × (is_date d m y ≡ true)))
 unfolding date_at
-parts a b c none om oy d m y e = not_there a d m y e
-parts a b c (some i) none oy d m y e = not_there b d m y e
-parts a b c (some i) (some j) none d m y e = not_there c d m y e
-parts a b c (some i) (some j) (some k) d m y e = go (is_date i j k) refl e
+parts a b c None om oy d m y e = not_there a d m y e
+parts a b c (Some i) None oy d m y e = not_there b d m y e
+parts a b c (Some i) (Some j) None d m y e = not_there c d m y e
+parts a b c (Some i) (Some j) (Some k) d m y e = go (is_date i j k) refl e
   where
     go : (t : Bool) → is_date i j k ≡ t → pick t (the_date i j k) (no_date c) ≡ the_date d m y
-        → (some i ≡ some d) × ((some j ≡ some m) × ((some k ≡ some y) × (is_date d m y ≡ true)))
+        → (Some i ≡ Some d) × ((Some j ≡ Some m) × ((Some k ≡ Some y) × (is_date d m y ≡ true)))
     go true p q =
         let u : i ≡ d = ap (λ (r : GotDate). r.day) q in
         let v : j ≡ m = ap (λ (r : GotDate). r.month) q in
         let w : k ≡ y = ap (λ (r : GotDate). r.year) q in
-        (ap some u, (ap some v, (ap some w, rw (← u, ← v, ← w) p)))
+        (ap Some u, (ap Some v, (ap Some w, rw (← u, ← v, ← w) p)))
     go false p q = not_there c d m y q
 
 pick_second : (t : Bool) (n : ℕ) (x : GotDate) (d m y : ℕ) → pick t (no_date n) x ≡ the_date d m y → (t ≡ false) × (x ≡ the_date d m y)
@@ -141,9 +141,9 @@ year-again y h k = go (ltb (y % 100) 80) refl
     go true e = omega (arith, ltb-true (y % 100) 80 e)
     go false e = omega (arith, ltb-false (y % 100) 80 e)
 
-mapped : (o : Option ℕ) (y : ℕ) → Under 100 o → map full_year o ≡ some y → o ≡ some (y % 100)
-mapped none y h e = nothing y e
-mapped (some yy) y h e = let p : full_year yy ≡ y = cc in ap some (sym (year-last yy h) ∙ ap (λ (n : ℕ). n % 100) p)
+mapped : (o : Option ℕ) (y : ℕ) → Under 100 o → option_map full_year o ≡ Some y → o ≡ Some (y % 100)
+mapped None y h e = nothing y e
+mapped (Some yy) y h e = let p : full_year yy ≡ y = cc in ap Some (sym (year-last yy h) ∙ ap (λ (n : ℕ). n % 100) p)
 
 -- A field that RMC reads as a date is the text of that date, which exists.
 pub six-text : (f : List ℕ) (d m y : ℕ) → date_six f ≡ the_date d m y
@@ -151,7 +151,7 @@ pub six-text : (f : List ℕ) (d m y : ℕ) → date_six f ≡ the_date d m y
 unfolding date_six
 six-text f d m y e =
     let t = pick_first (eqb (length f) 6) 1 _ d m y (pick_second (eqb (length f) 0) 0 _ d m y e).1 in
-    let p = parts 1 1 1 (pair_at 0 f) (pair_at 2 f) (map full_year (pair_at 4 f)) d m y t.1 in
+    let p = parts 1 1 1 (pair_at 0 f) (pair_at 2 f) (option_map full_year (pair_at 4 f)) d m y t.1 in
     let n : length f ≤ 6 = omega (arith, eqb-true (length f) 6 t.0) in (
       p.1.1.1,
       pair-cut 0 f d p.0
@@ -164,15 +164,15 @@ module _ (d m y : ℕ) where
   abbrev bytes : List ℕ
   bytes = print_fixed 2 d ++ (print_fixed 2 m ++ print_fixed 2 (y % 100))
 
-  at-0 : d < 100 → pair_at 0 bytes ≡ some d
+  at-0 : d < 100 → pair_at 0 bytes ≡ Some d
   unfolding pair_at print_fixed
   at-0 k = fixed-rt 2 d (lit≤ tt) k
 
-  at-2 : m < 100 → pair_at 2 bytes ≡ some m
+  at-2 : m < 100 → pair_at 2 bytes ≡ Some m
   unfolding pair_at print_fixed
   at-2 k = fixed-rt 2 m (lit≤ tt) k
 
-  at-4 : y % 100 < 100 → pair_at 4 bytes ≡ some (y % 100)
+  at-4 : y % 100 < 100 → pair_at 4 bytes ≡ Some (y % 100)
   unfolding pair_at print_fixed
   at-4 k = fixed-rt 2 (y % 100) (lit≤ tt) k
 

@@ -3,7 +3,7 @@
 use Prim.Native.Nat.{◌<◌, ◌≤◌, suc, zero, ℕ}
 use mathlib.Core.Bool.{◌&&◌, Bool, cond, false, not, true}
 use mathlib.Core.List.{[], ◌∷◌, List}
-use mathlib.Core.Option.{none, Option, map, some}
+use Rattle.std.specs.Prelude.{None, Option, option_map, Some}
 use mathlib.Core.Path.{◌∙◌, ◌≡◌, ap, refl, sym}
 use native.Mathlib.Omega.{arith}
 use lib.Dec.{eqb, leb, lit<, lit≤}
@@ -26,7 +26,7 @@ use Rattle.form_date.specs.declared.dates.GotDate.{GotDate}
 -- A date in one field.
 six-most : (f : List ℕ) → (date_six f).wrong ≤ 1
 unfolding date_six date_at
-six-most f = go (eqb (length f) 0) (eqb (length f) 6) (pair_at 0 f) (pair_at 2 f) (map full_year (pair_at 4 f))
+six-most f = go (eqb (length f) 0) (eqb (length f) 6) (pair_at 0 f) (pair_at 2 f) (option_map full_year (pair_at 4 f))
   where
     real : (t : Bool) (d m y : ℕ) → (pick t (the_date d m y) (no_date 1)).wrong ≤ 1
     real true d m y = lit≤ tt
@@ -35,10 +35,10 @@ six-most f = go (eqb (length f) 0) (eqb (length f) 6) (pair_at 0 f) (pair_at 2 f
     go : (s t : Bool) (d m y : Option ℕ) → (pick s (no_date 0) (pick t (date_at 1 1 1 d m y) (no_date 1))).wrong ≤ 1
     go true t d m y = lit≤ tt
     go false false d m y = lit≤ tt
-    go false true none m y = lit≤ tt
-    go false true (some d) none y = lit≤ tt
-    go false true (some d) (some m) none = lit≤ tt
-    go false true (some d) (some m) (some y) = real (is_date d m y) d m y
+    go false true None m y = lit≤ tt
+    go false true (Some d) None y = lit≤ tt
+    go false true (Some d) (Some m) None = lit≤ tt
+    go false true (Some d) (Some m) (Some y) = real (is_date d m y) d m y
 
 six-empty : (date_six []).wrong ≡ 0
 unfolding date_six
@@ -55,14 +55,14 @@ month_of f = within_of 1 12 (digits_of 2 2 f)
 
 -- Some year has that day of that month: 2000, which is a leap year.
 abbrev pub usual_date : (ℕ → List ℕ) → Type 0
-usual_date field = (d m : ℕ) → day_of (field 1) ≡ some d → month_of (field 2) ≡ some m → is_date d m 2000 ≡ true
+usual_date field = (d m : ℕ) → day_of (field 1) ≡ Some d → month_of (field 2) ≡ Some m → is_date d m 2000 ≡ true
 
 -- Where the second field is wrong: by whether the day and the month are empty, and what they are read as.
 abbrev second : Bool → Bool → Option ℕ → Option ℕ → Bool
 second true t d m = not t
-second false t none m = false
-second false t (some d) none = true
-second false t (some d) (some m) = false
+second false t None m = false
+second false t (Some d) None = true
+second false t (Some d) (Some m) = false
 
 -- What three fields read as: whether the first is wrong, and whether the second is.
 record Dated (g : GotDate) (first next : Bool) : Type 0 where
@@ -87,20 +87,20 @@ date-is d m y = go (empty d) (empty m) (empty y) (day_of d) (month_of m) (digits
     go true true true a b c = record { is-first = refl; is-second = refl; most = lit≤ tt }
     go true true false a b c = record { is-first = refl; is-second = refl; most = lit≤ tt }
     go true false u a b c = record { is-first = refl; is-second = refl; most = lit≤ tt }
-    go false t u none b c = record { is-first = refl; is-second = refl; most = lit≤ tt }
-    go false t u (some a) none c = record { is-first = refl; is-second = refl; most = lit≤ tt }
-    go false t u (some a) (some b) none = record { is-first = refl; is-second = refl; most = lit≤ tt }
-    go false t u (some a) (some b) (some c) = real (is_date a b c) a b c
+    go false t u None b c = record { is-first = refl; is-second = refl; most = lit≤ tt }
+    go false t u (Some a) None c = record { is-first = refl; is-second = refl; most = lit≤ tt }
+    go false t u (Some a) (Some b) None = record { is-first = refl; is-second = refl; most = lit≤ tt }
+    go false t u (Some a) (Some b) (Some c) = real (is_date a b c) a b c
 
 -- January of 2000 has every day that was read; a date of 2000 is one.
 january : (d : ℕ) → 1 ≤ d → d ≤ 31 → is_date d 1 2000 ≡ true
 unfolding is_date days_in
 january d a b = rw (le-leb 1 d a, le-leb d 31 b)
 
-two_digits : (lo hi v : ℕ) → v < 100 → lo ≤ v → v ≤ hi → within_of lo hi (digits_of 2 2 (print_fixed 2 v)) ≡ some v
+two_digits : (lo hi v : ℕ) → v < 100 → lo ≤ v → v ≤ hi → within_of lo hi (digits_of 2 2 (print_fixed 2 v)) ≡ Some v
 two_digits lo hi v h a b = ap (within_of lo hi) (fixed-rt 2 v (lit≤ tt) h) ∙ within-yes lo hi v a b
 
-the-year : digits_of 4 4 (print_fixed 4 2000) ≡ some 2000
+the-year : digits_of 4 4 (print_fixed 4 2000) ≡ Some 2000
 the-year = fixed-rt 4 2000 (lit≤ tt) (lit< tt)
 
 -- A month and a year for a day: January 2000, or none.
@@ -116,7 +116,7 @@ module _ (d : List ℕ) where
       go false = clean-fixed w v
 
   year-good : (m : List ℕ) → unread (empty d) (day_of d) ≡ false → second (empty d) (empty m) (day_of d) (month_of m) ≡ false
-      → ((a b : ℕ) → day_of d ≡ some a → month_of m ≡ some b → is_date a b 2000 ≡ true) → (date_three d m (for_day 4 2000)).wrong ≡ 0
+      → ((a b : ℕ) → day_of d ≡ Some a → month_of m ≡ Some b → is_date a b 2000 ≡ true) → (date_three d m (for_day 4 2000)).wrong ≡ 0
   unfolding date_three date_at
   year-good m h k u = go (empty d) (empty m) (day_of d) (month_of m) h k refl refl
     where
@@ -124,9 +124,9 @@ module _ (d : List ℕ) where
           → (dated s t (empty (pick s [] (print_fixed 4 2000))) a b (digits_of 4 4 (pick s [] (print_fixed 4 2000)))).wrong ≡ 0
       go true true a b p q e i = refl
       go true false a b p q e i = ap (λ (t : Bool). pick t 2 0) q
-      go false t none b p q e i = ap (λ (t : Bool). pick t 1 0) p
-      go false t (some a) none p q e i = ap (λ (t : Bool). pick t 2 0) q
-      go false t (some a) (some b) p q e i = rw (the-year, u a b e i)
+      go false t None b p q e i = ap (λ (t : Bool). pick t 1 0) p
+      go false t (Some a) None p q e i = ap (λ (t : Bool). pick t 2 0) q
+      go false t (Some a) (Some b) p q e i = rw (the-year, u a b e i)
 
   month-good : unread (empty d) (day_of d) ≡ false → (date_three d (for_day 2 1) (for_day 4 2000)).wrong ≡ 0
   unfolding date_three date_at
@@ -136,8 +136,8 @@ module _ (d : List ℕ) where
           → (dated s (empty (pick s [] (print_fixed 2 1))) (empty (pick s [] (print_fixed 4 2000))) a (month_of (pick s [] (print_fixed 2 1)))
           (digits_of 4 4 (pick s [] (print_fixed 4 2000)))).wrong ≡ 0
       go true a q e = refl
-      go false none q e = ap (λ (t : Bool). pick t 1 0) q
-      go false (some a) q e =
+      go false None q e = ap (λ (t : Bool). pick t 1 0) q
+      go false (Some a) q e =
           let i = within-range 1 31 (digits_of 2 2 d) a e in
           rw (two_digits 1 12 1 (lit< tt) (lit≤ tt) (lit≤ tt), the-year, january a i.1 i.2)
 
@@ -207,6 +207,6 @@ no-such-day y =
       two_digits 1 12 2 (lit< tt) (lit≤ tt) (lit≤ tt),
     ) (go (digits_of 4 4 y))
   where
-    go : (c : Option ℕ) → (date_at 1 2 3 (some 31) (some 2) c).wrong ≡ 3
-    go none = refl
-    go (some c) = rw (february c)
+    go : (c : Option ℕ) → (date_at 1 2 3 (Some 31) (Some 2) c).wrong ≡ 3
+    go None = refl
+    go (Some c) = rw (february c)

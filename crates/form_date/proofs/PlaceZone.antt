@@ -2,7 +2,8 @@
 use Prim.Native.Nat.{◌*◌, ◌+◌, ◌≤◌, ℕ}
 use mathlib.Core.Bool.{Bool, false, not, true}
 use mathlib.Core.List.{[], List}
-use mathlib.Core.Option.{bind, none, Option, some}
+use Rattle.std.specs.Prelude.{None, Option, Some}
+use Rattle.digits.specs.Bind.{bind}
 use mathlib.Core.Path.{◌∙◌, ◌≡◌, ap, refl}
 use native.Mathlib.Omega.{arith}
 use lib.Dec.{lit<, lit≤}
@@ -55,8 +56,8 @@ abbrev zoned : List ℕ → Bool → Bool → Option ℕ → Option ℕ → GotI
 zoned h s t a b = pick s (pick t missing_int (record { wrong = 2; there = false; value = pos 0 })) (zone_at 2 (minus h) a b)
 
 got-is : (o : Option ℤ) → Sided (got_zone_at 2 o) true false
-got-is none = record { is-there = refl; is-bad = refl; most = lit≤ tt }
-got-is (some z) = record { is-there = refl; is-bad = refl; most = lit≤ tt }
+got-is None = record { is-there = refl; is-bad = refl; most = lit≤ tt }
+got-is (Some z) = record { is-there = refl; is-bad = refl; most = lit≤ tt }
 
 -- The minutes do not change whether the hours are there, or wrong.
 zone-is : (h m : List ℕ) → Sided (zone_two h m) (not (empty h)) (unread (empty h) (hours_of h))
@@ -66,8 +67,8 @@ zone-is h m = go (empty h) (empty m) (hours_of h)
     go : (s t : Bool) (a : Option ℕ) → Sided (zoned h s t a (minutes_of m)) (not s) (unread s a)
     go true true a = record { is-there = refl; is-bad = refl; most = lit≤ tt }
     go true false a = record { is-there = refl; is-bad = refl; most = lit≤ tt }
-    go false t none = record { is-there = refl; is-bad = refl; most = lit≤ tt }
-    go false t (some a) = got-is (bind (minutes_of m) λ (k : ℕ). zone_of (minus h) (a * 60 + k))
+    go false t None = record { is-there = refl; is-bad = refl; most = lit≤ tt }
+    go false t (Some a) = got-is (bind (minutes_of m) λ (k : ℕ). zone_of (minus h) (a * 60 + k))
 
 -- Half an hour more is no minus zero.
 some-zone : (s : Bool) (h : ℕ) → (got_zone_at 2 (zone_of s (h * 60 + 30))).wrong ≡ 0
@@ -75,7 +76,7 @@ unfolding zone_of
 some-zone false h = refl
 some-zone true h = rw (ne_eqb (h * 60 + 30) 0 (λ e. omega arith))
 
-half-hour : minutes_of (print_fixed 2 30) ≡ some 30
+half-hour : minutes_of (print_fixed 2 30) ≡ Some 30
 half-hour = ap (within_of 0 59) (fixed-rt 2 30 (lit≤ tt) (lit< tt)) ∙ within-yes 0 59 30 (lit≤ tt) (lit≤ tt)
 
 module _ (h : List ℕ) where
@@ -90,14 +91,14 @@ module _ (h : List ℕ) where
       go false = clean-fixed 2 30
 
   minutes-good : unread (empty h) (hours_of h) ≡ false → (zone_two h minutes_for).wrong ≡ 0
-  unfolding zone_two zone_at bind
+  unfolding zone_two zone_at
   minutes-good q = go (empty h) (hours_of h) q
     where
       go : (s : Bool) (a : Option ℕ) → unread s a ≡ false
           → (zoned h s (empty (pick s [] (print_fixed 2 30))) a (minutes_of (pick s [] (print_fixed 2 30)))).wrong ≡ 0
       go true a q = refl
-      go false none q = ap (λ (t : Bool). pick t 1 0) q
-      go false (some a) q = rw half-hour (some-zone (minus h) a)
+      go false None q = ap (λ (t : Bool). pick t 1 0) q
+      go false (Some a) q = rw half-hour (some-zone (minus h) a)
 
 zone-none : (zone_two [] []).wrong ≡ 0
 unfolding zone_two

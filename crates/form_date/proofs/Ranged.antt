@@ -2,7 +2,8 @@
 use Prim.Native.Nat.{◌*◌, ◌+◌, ◌≤◌, ℕ}
 use mathlib.Core.Bool.{Bool, cond, false, true}
 use mathlib.Core.List.{List}
-use mathlib.Core.Option.{bind, none, Option, some}
+use Rattle.std.specs.Prelude.{None, Option, Some}
+use Rattle.digits.specs.Bind.{bind}
 use mathlib.Core.Path.{◌∙◌, ◌≡◌, ap, refl, subst}
 use native.Mathlib.Omega.{arith}
 use lib.Dec.{eqb}
@@ -44,10 +45,10 @@ the-zeros d m y e = absurd (true-false refl e)
 
 at-zeros : (a b c : ℕ) (d m y : Option ℕ) → Zeros (date_at a b c d m y)
 unfolding date_at
-at-zeros a b c none m y = no-zeros a
-at-zeros a b c (some d) none y = no-zeros b
-at-zeros a b c (some d) (some m) none = no-zeros c
-at-zeros a b c (some d) (some m) (some y) = pick-zeros (is_date d m y) (the_date d m y) (no_date c) (the-zeros d m y) (no-zeros c)
+at-zeros a b c None m y = no-zeros a
+at-zeros a b c (Some d) None y = no-zeros b
+at-zeros a b c (Some d) (Some m) None = no-zeros c
+at-zeros a b c (Some d) (Some m) (Some y) = pick-zeros (is_date d m y) (the_date d m y) (no_date c) (the-zeros d m y) (no-zeros c)
 
 six-zeros : (f : List ℕ) → Zeros (date_six f)
 unfolding date_six
@@ -118,13 +119,13 @@ six-short f e = go (date_six f).there refl
 
 -- Zones: one that is not there is zero.
 got-there : (n : ℕ) (o : Option ℤ) → (got_zone_at n o).there ≡ true
-got-there n none = refl
-got-there n (some z) = refl
+got-there n None = refl
+got-there n (Some z) = refl
 
 at_there : (n : ℕ) (s : Bool) (h m : Option ℕ) → (zone_at n s h m).there ≡ true
 unfolding zone_at
-at_there n s none m = refl
-at_there n s (some h) m = got-there n (bind m λ (k : ℕ). zone_of s (h * 60 + k))
+at_there n s None m = refl
+at_there n s (Some h) m = got-there n (bind m λ (k : ℕ). zone_of s (h * 60 + k))
 
 none-zero : (h m : List ℕ) → (zone_two h m).there ≡ false → (zone_two h m).value ≡ pos 0
 unfolding zone_two

@@ -2,7 +2,8 @@
 use Prim.Native.Nat.{◌%◌, ◌*◌, ◌+◌, ◌/◌, ◌≤◌, suc, zero, ℕ}
 use mathlib.Core.Bool.{Bool, cond, false, true}
 use mathlib.Core.List.{[], ◌++◌, ◌∷◌, append-nil, List}
-use mathlib.Core.Option.{bind, none, Option, some}
+use Rattle.std.specs.Prelude.{None, Option, Some}
+use Rattle.digits.specs.Bind.{bind}
 use mathlib.Core.Path.{◌∙◌, ◌≡◌, ap, refl, sym}
 use native.Mathlib.Omega.{arith}
 use lib.Dec.{eqb, eqb-suc-zero, lit≤}
@@ -32,22 +33,22 @@ minus-none f e = let k : length f ≤ 0 = omega arith in rw (get_or-eq_default f
 -- In one field all is wrong at 1.
 pub zone-one : (s : Bool) (hours minutes : Option ℕ)
     → zone_at 1 s hours minutes ≡ got_int_of (bind hours λ h. bind minutes λ m. zone_of s (h * 60 + m))
-unfolding zone_at bind
-zone-one s none minutes = refl
-zone-one s (some h) none = refl
-zone-one s (some h) (some m) = go (zone_of s (h * 60 + m))
+unfolding zone_at
+zone-one s None minutes = refl
+zone-one s (Some h) None = refl
+zone-one s (Some h) (Some m) = go (zone_of s (h * 60 + m))
   where
     go : (o : Option ℤ) → got_zone_at 1 o ≡ got_int_of o
-    go none = refl
-    go (some z) = refl
+    go None = refl
+    go (Some z) = refl
 
 -- The sign does not change the minutes.
-signed-abs : (s : Bool) (n : ℕ) (z : ℤ) → zone_of s n ≡ some z → nat_abs z ≡ n
+signed-abs : (s : Bool) (n : ℕ) (z : ℤ) → zone_of s n ≡ Some z → nat_abs z ≡ n
 unfolding zone_of
 signed-abs false n z e = let p : pos n ≡ z = cc in ap nat_abs (sym p)
 signed-abs true n z e = go (eqb n 0) e
   where
-    go : (t : Bool) → cond t none (some (neg_ℤ (pos n))) ≡ some z → nat_abs z ≡ n
+    go : (t : Bool) → cond t None (Some (neg_ℤ (pos n))) ≡ Some z → nat_abs z ≡ n
     go true q = nothing z q
     go false q = let p : neg_ℤ (pos n) ≡ z = cc in ap nat_abs (sym p) ∙ size true n
 
@@ -55,15 +56,14 @@ signed-abs true n z e = go (eqb n 0) e
 record Parts (s : Bool) (hours minutes : Option ℕ) (z : ℤ) : Type 0 where
   h : ℕ
   m : ℕ
-  is-h : hours ≡ some h
-  is_m : minutes ≡ some m
-  is-z : zone_of s (h * 60 + m) ≡ some z
+  is-h : hours ≡ Some h
+  is_m : minutes ≡ Some m
+  is-z : zone_of s (h * 60 + m) ≡ Some z
 
-parts : (s : Bool) (oh om : Option ℕ) (z : ℤ) → bind oh (λ h. bind om λ m. zone_of s (h * 60 + m)) ≡ some z → Parts s oh om z
-unfolding bind
-parts s none om z e = nothing z e
-parts s (some h) none z e = nothing z e
-parts s (some h) (some m) z e = record { h = h; m = m; is-h = refl; is_m = refl; is-z = e }
+parts : (s : Bool) (oh om : Option ℕ) (z : ℤ) → bind oh (λ h. bind om λ m. zone_of s (h * 60 + m)) ≡ Some z → Parts s oh om z
+parts s None om z e = nothing z e
+parts s (Some h) None z e = nothing z e
+parts s (Some h) (Some m) z e = record { h = h; m = m; is-h = refl; is_m = refl; is-z = e }
 
 -- Hours to 13 and minutes to 59 are at most 839 minutes.
 parts-le : (s : Bool) (a b : Option ℕ) (z : ℤ) → Parts s (within_of 0 13 a) (within_of 0 59 b) z → nat_abs z ≤ 839
@@ -72,7 +72,7 @@ parts-le s a b z p =
     let m = within-range 0 59 b p.m p.is_m in
     omega (arith, h.2, m.2, signed-abs s (p.h * 60 + p.m) z p.is-z)
 
-four-parts : (f : List ℕ) (z : ℤ) → zone_four f ≡ some z
+four-parts : (f : List ℕ) (z : ℤ) → zone_four f ≡ Some z
     → (length (bare_of f) ≡ 4) × Parts (minus f) (within_of 0 13 (pair_at 0 (bare_of f))) (within_of 0 59 (pair_at 2 (bare_of f))) z
 unfolding zone_four
 four-parts f z e =
@@ -81,17 +81,17 @@ four-parts f z e =
     (eqb-true (length (bare_of f)) 4 t.0, parts (minus f) _ _ z t.1)
 
 -- A zone in one field is within 839 minutes of zero.
-pub four-range : (f : List ℕ) (z : ℤ) → zone_four f ≡ some z → nat_abs z ≤ 839
+pub four-range : (f : List ℕ) (z : ℤ) → zone_four f ≡ Some z → nat_abs z ≤ 839
 four-range f z e = parts-le (minus f) (pair_at 0 (bare_of f)) (pair_at 2 (bare_of f)) z (four-parts f z e).1
 
-int_le : (n : ℕ) (o : Option ℤ) → ((z : ℤ) → o ≡ some z → nat_abs z ≤ 839) → nat_abs (got_zone_at n o).value ≤ 839
-int_le n none k = omega arith
-int_le n (some z) k = k z refl
+int_le : (n : ℕ) (o : Option ℤ) → ((z : ℤ) → o ≡ Some z → nat_abs z ≤ 839) → nat_abs (got_zone_at n o).value ≤ 839
+int_le n None k = omega arith
+int_le n (Some z) k = k z refl
 
 at-le : (n : ℕ) (s : Bool) (a b : Option ℕ) (oh : Option ℕ) → within_of 0 13 a ≡ oh → nat_abs (zone_at n s oh (within_of 0 59 b)).value ≤ 839
 unfolding zone_at
-at-le n s a b none e = omega arith
-at-le n s a b (some h) e = int_le n _ (λ z q. parts-le s a b z (parts s _ _ z (rw e q)))
+at-le n s a b None e = omega arith
+at-le n s a b (Some h) e = int_le n _ (λ z q. parts-le s a b z (parts s _ _ z (rw e q)))
 
 -- A zone in two fields is within 839 minutes of zero.
 pub two-range : (h m : List ℕ) → nat_abs (zone_two h m).value ≤ 839
@@ -105,12 +105,12 @@ two-range h m = go (eqb (length h) 0) (eqb (length m) 0)
     go false b = at-le 2 (minus h) (digits_of 2 2 (bare_of h)) (digits_of 2 2 m) _ refl
 
 -- The minus of a zone that is negative.
-sign-is : (s : Bool) (n : ℕ) (z : ℤ) → zone_of s n ≡ some z → sign_text z ≡ cond s (45 ∷ []) []
+sign-is : (s : Bool) (n : ℕ) (z : ℤ) → zone_of s n ≡ Some z → sign_text z ≡ cond s (45 ∷ []) []
 unfolding zone_of
 sign-is false n z e = let p : pos n ≡ z = cc in ap sign_text (sym p)
 sign-is true zero z e = nothing z e
 sign-is true (suc n) z e =
-    let q : some (negsuc n) ≡ some z = rw (eqb-suc-zero n) at e in
+    let q : Some (negsuc n) ≡ Some z = rw (eqb-suc-zero n) at e in
     let p : negsuc n ≡ z = cc in
     ap sign_text (sym p)
 
@@ -126,8 +126,8 @@ bare-back (b ∷ f) = go (eqb b 45) refl
 
 -- The hours and the minutes of a zone that was read, and how it was signed.
 record Read (s : Bool) (a b : Option ℕ) (z : ℤ) : Type 0 where
-  hours : a ≡ some (nat_abs z / 60)
-  minutes : b ≡ some (nat_abs z % 60)
+  hours : a ≡ Some (nat_abs z / 60)
+  minutes : b ≡ Some (nat_abs z % 60)
   sign : sign_text z ≡ cond s (45 ∷ []) []
   range : nat_abs z ≤ 839
 
@@ -141,7 +141,7 @@ reads s a b z p =
     record { hours = rw i at h.0; minutes = rw j at m.0; sign = sign-is s _ z p.is-z; range = parts-le s a b z p }
 
 -- A field that is read as a zone is the text of that zone.
-pub four-text : (f : List ℕ) (z : ℤ) → zone_four f ≡ some z
+pub four-text : (f : List ℕ) (z : ℤ) → zone_four f ≡ Some z
     → (nat_abs z ≤ 839) × (f ≡ sign_text z ++ (print_fixed 2 (nat_abs z / 60) ++ print_fixed 2 (nat_abs z % 60)))
 four-text f z e =
     let t = four-parts f z e in
@@ -158,14 +158,14 @@ four-text f z e =
 abbrev pub the_int : ℤ → GotInt
 the_int z = record { wrong = 0; there = true; value = z }
 
-int_is : (n : ℕ) (o : Option ℤ) (z : ℤ) → got_zone_at (suc n) o ≡ the_int z → o ≡ some z
-int_is n none z e = let w : suc n ≡ 0 = ap (λ (r : GotInt). r.wrong) e in let q : ⊥ = omega arith in absurd q
-int_is n (some y) z e = ap some (ap (λ (r : GotInt). r.value) e)
+int_is : (n : ℕ) (o : Option ℤ) (z : ℤ) → got_zone_at (suc n) o ≡ the_int z → o ≡ Some z
+int_is n None z e = let w : suc n ≡ 0 = ap (λ (r : GotInt). r.wrong) e in let q : ⊥ = omega arith in absurd q
+int_is n (Some y) z e = ap Some (ap (λ (r : GotInt). r.value) e)
 
 at-parts : (s : Bool) (oh om : Option ℕ) (z : ℤ) → zone_at 2 s oh om ≡ the_int z → Parts s oh om z
 unfolding zone_at
-at-parts s none om z e = let w : ◌≡◌ {A = ℕ} 1 0 = ap (λ (r : GotInt). r.wrong) e in let q : ⊥ = omega arith in absurd q
-at-parts s (some h) om z e = parts s (some h) om z (unfold bind in int_is 1 _ z e)
+at-parts s None om z e = let w : ◌≡◌ {A = ℕ} 1 0 = ap (λ (r : GotInt). r.wrong) e in let q : ⊥ = omega arith in absurd q
+at-parts s (Some h) om z e = parts s (Some h) om z (int_is 1 _ z e)
 
 not_there : (t : Bool) (x y : GotInt) (z : ℤ) → x.there ≡ false → pick t x y ≡ the_int z → (t ≡ false) × (y ≡ the_int z)
 not_there true x y z n e = absurd (true-false (sym (ap (λ (r : GotInt). r.there) (sym e))) n)
@@ -191,7 +191,7 @@ two-text h m z e =
     empty false = refl
 
 -- A zone printed is read again: first its sign and its bare text, then its two pairs.
-sign-back : (z : ℤ) (a : Bool) → sign_text z ≡ cond a (45 ∷ []) [] → zone_of a (nat_abs z) ≡ some z
+sign-back : (z : ℤ) (a : Bool) → sign_text z ≡ cond a (45 ∷ []) [] → zone_of a (nat_abs z) ≡ Some z
 unfolding zone_of
 sign-back (pos n) false e = refl
 sign-back (pos n) true e = let w : ◌≡◌ {A = ℕ} 0 1 = cc in let q : ⊥ = omega arith in absurd q
@@ -215,14 +215,14 @@ some_bytes (pos k) n e = omega arith
 some_bytes (negsuc k) n e = omega arith
 
 module _ (z : ℤ) (k : nat_abs z ≤ 839) where
-  joined : (a : Bool) → sign_text z ≡ cond a (45 ∷ []) [] → zone_of a (nat_abs z / 60 * 60 + nat_abs z % 60) ≡ some z
+  joined : (a : Bool) → sign_text z ≡ cond a (45 ∷ []) [] → zone_of a (nat_abs z / 60 * 60 + nat_abs z % 60) ≡ Some z
   joined a e = let s : nat_abs z / 60 * 60 + nat_abs z % 60 ≡ nat_abs z = omega arith in rw s (sign-back z a e)
 
-  bytes-0 : pair_at 0 (print_fixed 2 (nat_abs z / 60) ++ print_fixed 2 (nat_abs z % 60)) ≡ some (nat_abs z / 60)
+  bytes-0 : pair_at 0 (print_fixed 2 (nat_abs z / 60) ++ print_fixed 2 (nat_abs z % 60)) ≡ Some (nat_abs z / 60)
   unfolding pair_at print_fixed
   bytes-0 = fixed-rt 2 (nat_abs z / 60) (lit≤ tt) (omega arith)
 
-  bytes_2 : pair_at 2 (print_fixed 2 (nat_abs z / 60) ++ print_fixed 2 (nat_abs z % 60)) ≡ some (nat_abs z % 60)
+  bytes_2 : pair_at 2 (print_fixed 2 (nat_abs z / 60) ++ print_fixed 2 (nat_abs z % 60)) ≡ Some (nat_abs z % 60)
   unfolding pair_at print_fixed
   bytes_2 = fixed-rt 2 (nat_abs z % 60) (lit≤ tt) (omega arith)
 
@@ -231,8 +231,8 @@ module _ (z : ℤ) (k : nat_abs z ≤ 839) where
   shape = refl
 
   -- The text of a zone is read as that zone, in one field.
-  pub text-four : zone_four (sign_text z ++ (print_fixed 2 (nat_abs z / 60) ++ print_fixed 2 (nat_abs z % 60))) ≡ some z
-  unfolding zone_four bind
+  pub text-four : zone_four (sign_text z ++ (print_fixed 2 (nat_abs z / 60) ++ print_fixed 2 (nat_abs z % 60))) ≡ Some z
+  unfolding zone_four
   text-four =
       let t = signed-first z (nat_abs z / 60) (print_fixed 2 (nat_abs z % 60)) in
       rw (
@@ -246,7 +246,7 @@ module _ (z : ℤ) (k : nat_abs z ≤ 839) where
 
   -- And so it is in two fields.
   pub text-two : zone_two (sign_text z ++ print_fixed 2 (nat_abs z / 60)) (print_fixed 2 (nat_abs z % 60)) ≡ the_int z
-  unfolding zone_two zone_at bind
+  unfolding zone_two zone_at
   text-two =
       let t = rw append-nil at (signed-first z (nat_abs z / 60) []) in
       rw (ne_eqb (length (sign_text z ++ print_fixed 2 (nat_abs z / 60))) 0 (λ e. some_bytes z (nat_abs z / 60) e), t.1)

@@ -1,6 +1,6 @@
 -- The date's fields: RMC `ddmmyy`, yy 80 to 99 meaning 19yy, may be empty; ZDA day 01-31, month 01-12, four-digit year, all or none.
 use Rattle.std.specs.Prelude.{◌%◌, ◌+◌, ℕ, cond, false, true, ◌++◌, List, eqb, ltb, length}
-use Rattle.std.proofs.Math.Option.{none, Option, map, some}
+use Rattle.std.specs.Prelude.{None, Option, option_map, Some}
 use Rattle.digits.specs.Decimal.{digits_of, print_fixed}
 use Rattle.digits.specs.Pairs.{pair_at}
 use Rattle.digits.specs.Pick.{pick}
@@ -18,10 +18,10 @@ the_date d m y = record { wrong = 0; there = true; day = d; month = m; year = y 
 -- The date of a day, a month and a year that stand in the fields a, b and c. The first bad one is wrong; the last, where there is no such
 -- date.
 unfoldable pub date_at : ℕ → ℕ → ℕ → Option ℕ → Option ℕ → Option ℕ → GotDate
-date_at a b c none om oy = no_date a
-date_at a b c (some d) none oy = no_date b
-date_at a b c (some d) (some m) none = no_date c
-date_at a b c (some d) (some m) (some y) = pick (is_date d m y) (the_date d m y) (no_date c)
+date_at a b c None om oy = no_date a
+date_at a b c (Some d) None oy = no_date b
+date_at a b c (Some d) (Some m) None = no_date c
+date_at a b c (Some d) (Some m) (Some y) = pick (is_date d m y) (the_date d m y) (no_date c)
 
 -- The year that two digits mean.
 unfoldable pub full_year : ℕ → ℕ
@@ -31,7 +31,7 @@ full_year yy = cond (ltb yy 80) (2000 + yy) (1900 + yy)
 unfoldable pub date_six : List ℕ → GotDate
 date_six f =
     pick (eqb (length f) 0) (no_date 0)
-    (pick (eqb (length f) 6) (date_at 1 1 1 (pair_at 0 f) (pair_at 2 f) (map full_year (pair_at 4 f)))
+    (pick (eqb (length f) 6) (date_at 1 1 1 (pair_at 0 f) (pair_at 2 f) (option_map full_year (pair_at 4 f)))
     (no_date 1))
 
 -- Where the day is empty, the first of the others that is not is wrong.

@@ -1,7 +1,8 @@
 -- Zone: hours 00 to 13 with optional minus (no plus), minutes 00 to 59; held as signed minutes, the sign of the hours covering both. Minus
 -- with zero minutes in all is refused. Both or none.
 use Rattle.std.specs.Prelude.{◌%◌, ◌*◌, ◌+◌, ◌/◌, ℕ, Bool, cond, false, true, ◌++◌, List, eqb, nat_abs, neg_ℤ, pos, ℤ, drop, get_or, length}
-use Rattle.std.proofs.Math.Option.{bind, none, Option, some}
+use Rattle.std.specs.Prelude.{None, Option, Some}
+use Rattle.digits.specs.Bind.{bind}
 use Rattle.digits.specs.Decimal.{digits_of, print_fixed}
 use Rattle.digits.specs.Pairs.{pair_at}
 use Rattle.digits.specs.Pick.{pick}
@@ -29,7 +30,7 @@ bare_of f = cond (minus f) (drop 1 f) f
 
 -- n minutes with their sign; there is no minus zero.
 unfoldable pub zone_of : Bool → ℕ → Option ℤ
-zone_of negative n = cond negative (cond (eqb n 0) none (some (neg_ℤ (pos n)))) (some (pos n))
+zone_of negative n = cond negative (cond (eqb n 0) None (Some (neg_ℤ (pos n)))) (Some (pos n))
 
 -- A zone that is wrong in field n.
 abbrev pub wrong_zone : ℕ → GotInt
@@ -37,14 +38,13 @@ wrong_zone n = record { wrong = n; there = true; value = pos 0 }
 
 -- A zone that was read, or is wrong in field n.
 abbrev pub got_zone_at : ℕ → Option ℤ → GotInt
-got_zone_at n (some z) = record { wrong = 0; there = true; value = z }
-got_zone_at n none = wrong_zone n
+got_zone_at n (Some z) = record { wrong = 0; there = true; value = z }
+got_zone_at n None = wrong_zone n
 
 -- Wrong hours are wrong at 1, all else at n.
 unfoldable pub zone_at : ℕ → Bool → Option ℕ → Option ℕ → GotInt
-unfolding bind
-zone_at n negative none minutes = wrong_zone 1
-zone_at n negative (some h) minutes = got_zone_at n (bind minutes λ m. zone_of negative (h * 60 + m))
+zone_at n negative None minutes = wrong_zone 1
+zone_at n negative (Some h) minutes = got_zone_at n (bind minutes λ m. zone_of negative (h * 60 + m))
 
 -- Two fields: where the hours are empty, the minutes are too, or they are wrong.
 unfoldable pub zone_two : List ℕ → List ℕ → GotInt
@@ -54,12 +54,11 @@ zone_two h m =
 
 -- One field `hhmm`, with minus if negative.
 unfoldable pub zone_four : List ℕ → Option ℤ
-unfolding bind
 zone_four f =
     cond (eqb (length (bare_of f)) 4)
     (bind (within_of 0 hours_most (pair_at 0 (bare_of f))) λ h. bind (within_of 0 minutes_most (pair_at 2 (bare_of f))) λ m. zone_of (minus f)
     (h * 60 + m))
-    none
+    None
 
 -- The hours with their sign, and the minutes, of a zone in signed minutes; and both as one field.
 abbrev pub hours_text : ℤ → List ℕ

@@ -1,41 +1,42 @@
-// The values of this form from numbers, each from its place on. A number that is no mark makes its value missing and not
-// zero, which the writers refuse.
-ghost use Rattle.std.specs.Prelude.{◌≡◌};
+// The values of this form from numbers.
 ghost use Rattle.form_date.specs.Numbers.{date_layout, zone_layout};
 
 use crate::{Date, Zone};
+use form::from_numbers::FromNumbers;
 
-pub fn zone(n: &[i64], i: u16) -> Zone
-    ensures { result ≡ zone_layout.at n.now i }
-{
-    let at = i as usize;
-    let there = numbers::there_at(n, at);
-    if numbers::is_mark_at(n, at) {
-        return Zone {
-            there,
-            minutes: numbers::signed_at(n, at + 1),
-        };
+impl FromNumbers for Zone {
+    ghost layout = { zone_layout };
+
+    fn at(n: &[i64], i: usize) -> Zone {
+        let there = numbers::there_at(n, i);
+        if numbers::is_mark_at(n, i) {
+            return Zone {
+                there,
+                minutes: numbers::signed_at(n, i + 1),
+            };
+        }
+        Zone { there, minutes: 1 }
     }
-    Zone { there, minutes: 1 }
 }
 
-pub fn date(n: &[i64], i: u16) -> Date
-    ensures { result ≡ date_layout.at n.now i }
-{
-    let at = i as usize;
-    let there = numbers::there_at(n, at);
-    if numbers::is_mark_at(n, at) {
-        return Date {
+impl FromNumbers for Date {
+    ghost layout = { date_layout };
+
+    fn at(n: &[i64], i: usize) -> Date {
+        let there = numbers::there_at(n, i);
+        if numbers::is_mark_at(n, i) {
+            return Date {
+                there,
+                day: numbers::whole_at(n, i + 1),
+                month: numbers::whole_at(n, i + 1 + 1),
+                year: numbers::whole_at(n, i + 1 + 1 + 1),
+            };
+        }
+        Date {
             there,
-            day: numbers::whole_at(n, at + 1),
-            month: numbers::whole_at(n, at + 1 + 1),
-            year: numbers::whole_at(n, at + 1 + 1 + 1),
-        };
-    }
-    Date {
-        there,
-        day: 1,
-        month: 0,
-        year: 0,
+            day: 1,
+            month: 0,
+            year: 0,
+        }
     }
 }

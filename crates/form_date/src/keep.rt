@@ -6,31 +6,36 @@ use crate::dates::GotDate;
 use crate::{Date, Zone};
 use form::got::GotInt;
 
-pub fn dated(d: GotDate) -> Date
-    ensures { result ≡ dated_of d }
-{
-    Date {
-        there: d.there,
-        day: d.day,
-        month: d.month,
-        year: d.year,
+impl From<GotDate> for Date {
+    ghost from_gives = { λ g d. d ≡ dated_of g };
+
+    fn from(g: GotDate) -> Date {
+        Date {
+            there: g.there,
+            day: g.day,
+            month: g.month,
+            year: g.year,
+        }
     }
 }
 
-pub fn zoned(g: GotInt) -> Zone
-    ensures { result ≡ zoned_of g }
-{
-    Zone {
-        there: g.there,
-        minutes: g.value,
+impl From<GotInt> for Zone {
+    ghost from_gives = { λ g z. z ≡ zoned_of g };
+
+    fn from(g: GotInt) -> Zone {
+        Zone {
+            there: g.there,
+            minutes: g.value,
+        }
     }
 }
 
+// A zone that is kept only where `there` says so, else missing.
 pub fn zoned_if(there: bool, g: GotInt) -> Zone
     ensures { result ≡ zoned_if there g }
 {
     if there {
-        return zoned(g);
+        return g.into();
     }
     Zone {
         there: false,

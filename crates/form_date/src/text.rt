@@ -7,6 +7,7 @@ ghost use Rattle.form_date.specs.Values.{day_field, hours_field, minutes_field, 
 ghost use Rattle.form_date.specs.Zone.{four_text, hours_text};
 
 use crate::{Date, Zone, split};
+use form::Maybe;
 
 fn put_six(out: &mut [u8], at: usize, day: u32, month: u32, year: u32) -> usize
     ensures { Puts (held at out.old) (six_text day month year) (held result out.new) }
@@ -31,9 +32,31 @@ pub fn six(out: &mut [u8], at: usize, d: Date) -> usize
 pub fn three(out: &mut [u8], at: usize, d: Date) -> usize
     ensures { PutsFields (held at out.old) (day_field d ∷ month_field d ∷ year_field d ∷ []) (held result out.new) }
 {
-    let a0 = form_number::text::two(out, at, d.there, d.day);
-    let a1 = form_number::text::two(out, a0, d.there, d.month);
-    form_number::text::four(out, a1, d.there, d.year)
+    let there = d.there;
+    let a0 = form_number::text::two(
+        out,
+        at,
+        Maybe {
+            there,
+            value: d.day,
+        },
+    );
+    let a1 = form_number::text::two(
+        out,
+        a0,
+        Maybe {
+            there,
+            value: d.month,
+        },
+    );
+    form_number::text::four(
+        out,
+        a1,
+        Maybe {
+            there,
+            value: d.year,
+        },
+    )
 }
 
 fn put_hours(out: &mut [u8], at: usize, z: i32) -> usize
@@ -51,23 +74,23 @@ fn put_zone(out: &mut [u8], at: usize, z: i32) -> usize
 }
 
 // `-0330`: a zone in one field.
-pub fn zone_four(out: &mut [u8], at: usize, there: bool, z: i32) -> usize
-    ensures { PutsFields (held at out.old) (if_there there (four_text z) ∷ []) (held result out.new) }
+pub fn zone_four(out: &mut [u8], at: usize, z: Zone) -> usize
+    ensures { PutsFields (held at out.old) (if_there z.there (four_text z.minutes) ∷ []) (held result out.new) }
 {
     let a = put::put(out, at, 44);
-    if there {
-        return put_zone(out, a, z);
+    if z.there {
+        return put_zone(out, a, z.minutes);
     }
     a
 }
 
 // `-03`
-fn hours(out: &mut [u8], at: usize, there: bool, z: i32) -> usize
-    ensures { PutsFields (held at out.old) (if_there there (hours_text z) ∷ []) (held result out.new) }
+fn hours(out: &mut [u8], at: usize, z: Zone) -> usize
+    ensures { PutsFields (held at out.old) (hours_field z ∷ []) (held result out.new) }
 {
     let a = put::put(out, at, 44);
-    if there {
-        return put_hours(out, a, z);
+    if z.there {
+        return put_hours(out, a, z.minutes);
     }
     a
 }
@@ -76,7 +99,14 @@ fn hours(out: &mut [u8], at: usize, there: bool, z: i32) -> usize
 pub fn zone(out: &mut [u8], at: usize, z: Zone) -> usize
     ensures { PutsFields (held at out.old) (hours_field z ∷ minutes_field z ∷ []) (held result out.new) }
 {
-    let minutes = z.minutes;
-    let a = hours(out, at, z.there, minutes);
-    form_number::text::two(out, a, z.there, split::minutes(minutes))
+    let a = hours(out, at, z);
+    let value = split::minutes(z.minutes);
+    form_number::text::two(
+        out,
+        a,
+        Maybe {
+            there: z.there,
+            value,
+        },
+    )
 }

@@ -1,34 +1,23 @@
 // The time zone.
 ghost use Rattle.std.specs.Prelude.{◌≡◌};
-ghost use Rattle.digits.specs.Means.{num};
-ghost use Rattle.fields.specs.Places.{field_in};
 ghost use Rattle.form.specs.Got.{maybe_int_of, within_of};
 ghost use Rattle.form_date.specs.Zone.{bare_of, minus, wrong_zone, zone_at, zone_four, zone_four_form, zone_two};
 
-use digits::Num;
+use digits::pair::pair_at;
 use form::got::GotInt;
 
 // Whether a field begins with a minus.
 fn is_minus(f: &[u8]) -> bool
     ensures { result ≡ minus f.now }
 {
-    if f.len() == 0 {
-        return false;
-    }
-    f[0] == 45
+    f.first() == Some(&b'-')
 }
 
 // A field without its minus.
 fn bare(f: &[u8]) -> &[u8]
     ensures { result.now ≡ bare_of f.now }
 {
-    if f.len() == 0 {
-        return f;
-    }
-    if f[0] != 45 {
-        return f;
-    }
-    &f[1..]
+    f.strip_prefix(b"-").unwrap_or(f)
 }
 
 // A field that is wrong.
@@ -44,36 +33,23 @@ fn wrong_zone(wrong: u8) -> GotInt
 
 // The zone of hours and minutes and a sign that covers both: joined, then negated. Hours that are bad
 // or past 13 are wrong at 1; at `n` minutes that are bad or past 59, and a minus with zero in all.
-fn zone_at(negative: bool, hours: Num, minutes: Num, n: u8) -> GotInt
-    ensures { result ≡ zone_at n negative (within_of 0 13 (num hours)) (within_of 0 59 (num minutes)) }
+fn zone_at(negative: bool, hours: Option<u32>, minutes: Option<u32>, n: u8) -> GotInt
+    ensures { result ≡ zone_at n negative (within_of 0 13 hours) (within_of 0 59 minutes) }
 {
-    let Num::Is(h) = hours else {
+    let Some(h) = form::got::within(hours, 0, 13) else {
         return wrong_zone(1);
     };
-    if 13 < h {
-        return wrong_zone(1);
-    }
-    let Num::Is(m) = minutes else {
+    let Some(m) = form::got::within(minutes, 0, 59) else {
         return wrong_zone(n);
     };
-    if 59 < m {
-        return wrong_zone(n);
-    }
     let v = h * 60 + m;
-    if !negative {
-        return GotInt {
-            wrong: 0,
-            there: true,
-            value: v as i32,
-        };
-    }
-    if v == 0 {
+    if negative && v == 0 {
         return wrong_zone(n);
     }
     GotInt {
         wrong: 0,
         there: true,
-        value: -(v as i32),
+        value: digits::sign::held(v, negative),
     }
 }
 
@@ -82,18 +58,10 @@ fn zone_at(negative: bool, hours: Num, minutes: Num, n: u8) -> GotInt
 pub fn two(hours: &[u8], minutes: &[u8]) -> GotInt
     ensures { result ≡ zone_two hours.now minutes.now }
 {
-    if hours.len() == 0 {
-        if minutes.len() == 0 {
-            return GotInt {
-                wrong: 0,
-                there: false,
-                value: 0,
-            };
-        }
+    if hours.is_empty() {
         return GotInt {
-            wrong: 2,
-            there: false,
-            value: 0,
+            wrong: if minutes.is_empty() { 0 } else { 2 },
+            ..GotInt::default()
         };
     }
     let h = digits::digits(bare(hours), 2, 2);
@@ -105,35 +73,12 @@ pub fn two(hours: &[u8], minutes: &[u8]) -> GotInt
 pub fn four(f: &[u8]) -> GotInt
     ensures { result ≡ maybe_int_of f.now (zone_four f.now) }
 {
-    if f.len() == 0 {
-        return GotInt {
-            wrong: 0,
-            there: false,
-            value: 0,
-        };
+    if f.is_empty() {
+        return GotInt::default();
     }
     let b = bare(f);
     if b.len() != 4 {
         return wrong_zone(1);
     }
-    zone_at(
-        is_minus(f),
-        digits::pair::pair_at(b, 0),
-        digits::pair::pair_at(b, 2),
-        1,
-    )
-}
-
-// A zone in two fields, both or none.
-pub fn zone_in(s: &[u8], p: &[usize], k1: usize, k2: usize) -> GotInt
-    ensures { result ≡ zone_two (field_in p.now k1 s.now) (field_in p.now k2 s.now) }
-{
-    two(fields::field_in(s, p, k1), fields::field_in(s, p, k2))
-}
-
-// A zone of four digits, or missing.
-pub fn four_in(s: &[u8], p: &[usize], k: usize) -> GotInt
-    ensures { result ≡ zone_four_form (field_in p.now k s.now) }
-{
-    four(fields::field_in(s, p, k))
+    zone_at(is_minus(f), pair_at(b, 0), pair_at(b, 2), 1)
 }

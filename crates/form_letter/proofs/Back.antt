@@ -2,7 +2,7 @@
 use Prim.Native.Nat.{◌%◌, ◌<◌, ◌≤◌, ℕ}
 use mathlib.Core.Bool.{◌||◌, Bool, false, true, true≢false}
 use mathlib.Core.List.{[], ◌∷◌, List}
-use mathlib.Core.Option.{none, Option, some}
+use Rattle.std.specs.Prelude.{None, Option, Some}
 use mathlib.Core.Path.{◌≡◌, ap, refl, subst, sym}
 use native.Mathlib.Omega.{arith}
 use lib.Dec.{eqb, lit<}
@@ -57,12 +57,12 @@ unfolding letter_wrong
 letter-in-set set f e = go (letter_of set f) refl e
   where
     go : (o : Option ℕ) → letter_of set f ≡ o → (got_of o).wrong ≡ 0 → letter_wrong set (got_of o).value ≡ 0
-    go none q i = let z : ⊥ = omega arith in absurd z
-    go (some v) q i = let l = letter-is set f v q in rw l.1
+    go None q i = let z : ⊥ = omega arith in absurd z
+    go (Some v) q i = let l = letter-is set f v q in rw l.1
 
 pub letter-short : (set f : List ℕ) → (got_of (letter_of set f)).wrong ≡ 0 → length (letter_field (got_of (letter_of set f)).value) ≤ length f
 letter-short set f e = go (letter_of set f) refl e
   where
     go : (o : Option ℕ) → letter_of set f ≡ o → (got_of o).wrong ≡ 0 → length (letter_field (got_of o).value) ≤ length f
-    go none q i = let z : ⊥ = omega arith in absurd z
-    go (some v) q i = let l = letter-is set f v q in rw l.0 (omega arith)
+    go None q i = let z : ⊥ = omega arith in absurd z
+    go (Some v) q i = let l = letter-is set f v q in rw l.0 (omega arith)

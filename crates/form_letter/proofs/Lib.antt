@@ -1,5 +1,4 @@
 pub mod Back
-pub mod Finding
 pub mod Laws
 pub mod LetterLaws
 pub mod Place

@@ -1,7 +1,7 @@
 -- One letter of a set: read, in its range, written; the letters of document 01, each set said here once.
 use Rattle.std.specs.Prelude.{◌%◌, ℕ, ◌||◌, Bool, cond, false, [], ◌∷◌, List, eqb}
 use Prim.Native.String.{String}
-use Rattle.std.proofs.Math.Option.{none, Option, some}
+use Rattle.std.specs.Prelude.{None, Option, Some}
 use Rattle.digits.specs.Ascii.{ascii}
 use Rattle.form.specs.Forms.{single}
 use Rattle.form.specs.Got.{got_of}
@@ -25,9 +25,9 @@ is_in b (c ∷ s) = eqb c b || is_in b s
 
 -- One byte, which is in the set.
 unfoldable pub letter_of : List ℕ → List ℕ → Option ℕ
-letter_of set [] = none
-letter_of set (b ∷ []) = cond (is_in b set) (some b) none
-letter_of set (b ∷ c ∷ f) = none
+letter_of set [] = None
+letter_of set (b ∷ []) = cond (is_in b set) (Some b) None
+letter_of set (b ∷ c ∷ f) = None
 
 -- One letter of a set, never empty.
 abbrev pub letter_form : List ℕ → List ℕ → Got

@@ -2,7 +2,7 @@
 use Prim.Native.Nat.{◌%◌, ◌/◌, ◌<◌, ◌^◌, ◌≤◌, suc, zero, ℕ}
 use mathlib.Core.Bool.{Bool, cond, false, true}
 use mathlib.Core.List.{[], ◌∷◌, List}
-use mathlib.Core.Option.{none, Option, some}
+use Rattle.std.specs.Prelude.{None, Option, Some}
 use mathlib.Core.Path.{◌≡◌, ap, refl}
 use native.Mathlib.Omega.{arith}
 use lib.Dec.{eqb, lit≤, ltb}
@@ -105,7 +105,7 @@ wide-three v h = rw (lt-ltb v 1000 (omega arith)) (three (ltb v 10) (ltb v 100))
     three false true = lit≤ tt
     three false false = lit≤ tt
 
-rate-reads : (v : ℕ) → 1200 ≤ v → v ≤ 115200 → rate_of (plain_text v) ≡ some v
+rate-reads : (v : ℕ) → 1200 ≤ v → v ≤ 115200 → rate_of (plain_text v) ≡ Some v
 rate-reads v l h =
     let w = width_is v (omega arith) in
     text-rate (plain_text v) v l h (plain-written 4 6 v (omega arith) (wide-four v l) w.most)
@@ -147,8 +147,8 @@ port-in f e = go (eqb (length f) 0) (port_mask_of f) refl e
     go : (t : Bool) (o : Option ℕ) → port_mask_of f ≡ o → (pick t missing (got_of o)).wrong ≡ 0
         → port_wrong (pick t missing (got_of o)).there (pick t missing (got_of o)).value ≡ 0
     go true o q i = zero-outside
-    go false none q i = let z : ⊥ = omega arith in absurd z
-    go false (some v) q i = rw (port-mask-is f v q)
+    go false None q i = let z : ⊥ = omega arith in absurd z
+    go false (Some v) q i = rw (port-mask-is f v q)
 
 pub rate-in : (f : List ℕ) → (rate_form f).wrong ≡ 0 → range_wrong 1200 115200 (rate_form f).there (rate_form f).value ≡ 0
 unfolding rate_form

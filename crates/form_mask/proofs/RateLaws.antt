@@ -2,7 +2,7 @@
 use Prim.Native.Nat.{◌%◌, ◌*◌, ◌+◌, ◌-◌, ◌/◌, ◌<◌, ◌^◌, ◌≤◌, suc, zero, ℕ}
 use mathlib.Core.Bool.{◌&&◌, Bool, cond, false, true}
 use mathlib.Core.List.{List}
-use mathlib.Core.Option.{none, Option, some}
+use Rattle.std.specs.Prelude.{None, Option, Some}
 use mathlib.Core.Path.{◌∙◌, ◌≡◌, ap, refl, sym}
 use native.Mathlib.Nat.{div-eq_of_lt, div-lt_iff_lt-mul, le_trans, one-le-pow, pow-suc}
 use native.Mathlib.Numerals.{sub-one}
@@ -27,7 +27,7 @@ pub record PlainText (lo hi : ℕ) (f : List ℕ) (v : ℕ) : Type 0 where
   pub fits : v < 10 ^ width
   pub needed : 1 < width → 10 ^ (width - 1) ≤ v
 
-let-past : (t : Bool) (o : Option ℕ) (v : ℕ) → cond t none o ≡ some v → (t ≡ false) × (o ≡ some v)
+let-past : (t : Bool) (o : Option ℕ) (v : ℕ) → cond t None o ≡ Some v → (t ≡ false) × (o ≡ Some v)
 let-past true o v e = nothing v e
 let-past false o v e = (refl, e)
 
@@ -53,7 +53,7 @@ first : (k v : ℕ) → get_or (print_fixed (suc k) v) 0 0 ≡ 48 + v / 10 ^ k %
 first k v = rw (fixed-first k v)
 
 -- Digits read so are such a text.
-pub plain-text : (lo hi : ℕ) (f : List ℕ) (v : ℕ) → plain_of lo hi f ≡ some v → PlainText lo hi f v
+pub plain-text : (lo hi : ℕ) (f : List ℕ) (v : ℕ) → plain_of lo hi f ≡ Some v → PlainText lo hi f v
 unfolding plain_of
 plain-text lo hi f v e =
     let t = let-past (ltb 1 (length f) && eqb (get_or f 0 0) 48) (digits_of lo hi f) v e in
@@ -83,38 +83,38 @@ no_zero (suc (suc n)) v h k =
     (λ e. lead-back v (10 ^ suc n) (one-le-pow (suc n) 10 (lit< tt)) m o (sym (first (suc n) v) ∙ e)))
 
 -- Such a text is read so.
-pub text-plain : (lo hi : ℕ) (f : List ℕ) (v : ℕ) → hi ≤ 9 → PlainText lo hi f v → plain_of lo hi f ≡ some v
+pub text-plain : (lo hi : ℕ) (f : List ℕ) (v : ℕ) → hi ≤ 9 → PlainText lo hi f v → plain_of lo hi f ≡ Some v
 unfolding plain_of
 text-plain lo hi f v h p =
     rw (p.text, length-fixed p.width v, no_zero p.width v p.fits p.needed)
     (digits-read lo hi p.width v p.from p.to (le_trans p.to h) p.fits)
 
 -- A rate that was read is from 1200 to 115200.
-pub rate-range : (f : List ℕ) (v : ℕ) → rate_of f ≡ some v → (1200 ≤ v) × (v ≤ 115200)
+pub rate-range : (f : List ℕ) (v : ℕ) → rate_of f ≡ Some v → (1200 ≤ v) × (v ≤ 115200)
 unfolding rate_of
 rate-range f v e = let t = within-range 1200 115200 (plain_of 4 6 f) v e in (t.1, t.2)
 
 -- A code that was read is at most 255.
-pub code-range : (f : List ℕ) (v : ℕ) → code_of f ≡ some v → v ≤ 255
+pub code-range : (f : List ℕ) (v : ℕ) → code_of f ≡ Some v → v ≤ 255
 unfolding code_of
 code-range f v e = (within-range 0 255 (plain_of 1 3 f) v e).2
 
 -- A rate that was read is a number from 1200 to 115200 without leading zeros.
-pub rate-text : (f : List ℕ) (v : ℕ) → rate_of f ≡ some v → ((1200 ≤ v) × (v ≤ 115200)) × PlainText 4 6 f v
+pub rate-text : (f : List ℕ) (v : ℕ) → rate_of f ≡ Some v → ((1200 ≤ v) × (v ≤ 115200)) × PlainText 4 6 f v
 unfolding rate_of
 rate-text f v e = let t = within-range 1200 115200 (plain_of 4 6 f) v e in ((t.1, t.2), plain-text 4 6 f v t.0)
 
 -- And each such text is read so.
-pub text-rate : (f : List ℕ) (v : ℕ) → 1200 ≤ v → v ≤ 115200 → PlainText 4 6 f v → rate_of f ≡ some v
+pub text-rate : (f : List ℕ) (v : ℕ) → 1200 ≤ v → v ≤ 115200 → PlainText 4 6 f v → rate_of f ≡ Some v
 unfolding rate_of
 text-rate f v h k p = rw (text-plain 4 6 f v (lit≤ tt) p) (within-yes 1200 115200 v h k)
 
 -- A code that was read is a number from 0 to 255 without needless zeros.
-pub code-text : (f : List ℕ) (v : ℕ) → code_of f ≡ some v → (v ≤ 255) × PlainText 1 3 f v
+pub code-text : (f : List ℕ) (v : ℕ) → code_of f ≡ Some v → (v ≤ 255) × PlainText 1 3 f v
 unfolding code_of
 code-text f v e = let t = within-range 0 255 (plain_of 1 3 f) v e in (t.2, plain-text 1 3 f v t.0)
 
 -- And each such text is read so.
-pub text-code : (f : List ℕ) (v : ℕ) → v ≤ 255 → PlainText 1 3 f v → code_of f ≡ some v
+pub text-code : (f : List ℕ) (v : ℕ) → v ≤ 255 → PlainText 1 3 f v → code_of f ≡ Some v
 unfolding code_of
 text-code f v k p = rw (text-plain 1 3 f v (lit≤ tt) p) (within-yes 0 255 v (omega arith) k)

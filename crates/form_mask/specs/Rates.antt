@@ -1,6 +1,6 @@
 -- Rate 1200 to 115200 without leading zeros, or empty. Self-test code 0 to 255, one to three digits without needless zeros.
 use Rattle.std.specs.Prelude.{ℕ, ◌&&◌, cond, List, eqb, ltb, get_or, length}
-use Rattle.std.proofs.Math.Option.{none, Option}
+use Rattle.std.specs.Prelude.{None, Option}
 use Rattle.digits.specs.Decimal.{digits_of}
 use Rattle.form.specs.Got.{got_of, maybe_of, within_of}
 use Rattle.form.specs.declared.got.Got.{Got}
@@ -17,7 +17,7 @@ code_most = 255
 
 -- lo to hi digits, of which the first of several is no zero.
 unfoldable pub plain_of : ℕ → ℕ → List ℕ → Option ℕ
-plain_of lo hi f = cond (ltb 1 (length f) && eqb (get_or f 0 0) 48) none (digits_of lo hi f)
+plain_of lo hi f = cond (ltb 1 (length f) && eqb (get_or f 0 0) 48) None (digits_of lo hi f)
 
 -- 1200 to 115200.
 unfoldable pub rate_of : List ℕ → Option ℕ

@@ -1,21 +1,15 @@
 // Numbers without needless zeros: a rate, and a self-test code.
 ghost use Rattle.std.specs.Prelude.{◌≡◌};
-ghost use Rattle.digits.specs.Means.{num};
-ghost use Rattle.fields.specs.Places.{field_in};
 ghost use Rattle.form_mask.specs.Rates.{code_form, plain_of, rate_form};
 
-use digits::Num;
 use form::got::Got;
 
 // The value of `lo` to `hi` digits without needless zeros.
-fn plain(f: &[u8], lo: usize, hi: usize) -> Num
-    ensures { num result ≡ plain_of lo hi f.now }
+fn plain(f: &[u8], lo: usize, hi: usize) -> Option<u32>
+    ensures { result ≡ plain_of lo hi f.now }
 {
-    if f.len() <= 1 {
-        return digits::digits(f, lo, hi);
-    }
-    if f[0] == 48 {
-        return Num::Bad;
+    if 1 < f.len() && f[0] == b'0' {
+        return None;
     }
     digits::digits(f, lo, hi)
 }
@@ -34,18 +28,4 @@ pub fn code(f: &[u8]) -> Got
     ensures { result ≡ code_form f.now }
 {
     form::got::told(form::got::within(plain(f, 1, 3), 0, 255))
-}
-
-// A rate, or missing.
-pub fn rate_in(s: &[u8], p: &[usize], k: usize) -> Got
-    ensures { result ≡ rate_form (field_in p.now k s.now) }
-{
-    rate(fields::field_in(s, p, k))
-}
-
-// A self-test code, never empty.
-pub fn code_in(s: &[u8], p: &[usize], k: usize) -> Got
-    ensures { result ≡ code_form (field_in p.now k s.now) }
-{
-    code(fields::field_in(s, p, k))
 }

@@ -8,8 +8,6 @@ use crate::read;
 pub fn port_mask(there: bool, v: u32) -> u8
     ensures { result ≡ port_wrong there v }
 {
-    if there {
-        return if read::is_port_mask(v) { 0 } else { 1 };
-    }
-    form::range::within(v, 0, 0)
+    let good = if there { read::is_port_mask(v) } else { v == 0 };
+    if good { 0 } else { 1 }
 }

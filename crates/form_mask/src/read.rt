@@ -2,58 +2,44 @@
 ghost use Rattle.std.specs.Prelude.{◌-◌, ◌^◌, ◌≤◌, ◌≡◌, length};
 ghost use Rattle.std.proofs.Math.Bool;
 ghost use Rattle.digits.specs.Hex.{hex_digit, hex_value};
-ghost use Rattle.digits.specs.Means.{num};
-ghost use Rattle.fields.specs.Places.{field_in};
 ghost use Rattle.form_mask.specs.Masks.{hex_digits_of, hex_from, is_port_mask, port_mask_form, port_mask_of, satellites_form, satellites_of};
 ghost use Rattle.form_mask.specs.Masks.{whole_form};
 
-use digits::Num;
 use form::got::Got;
-
-fn wide(b: u8) -> u32
-    ensures { result ≡ b }
-{
-    b as u32
-}
 
 // The value of a capital hex digit.
 fn hex_value(b: u8) -> u32
     requires { hex_digit b ≡ Bool.true }
     ensures { result ≡ hex_value b }
 {
-    if b <= 57 { wide(b) - 48 } else { wide(b) - 55 }
+    if b <= b'9' {
+        u32::from(b - b'0')
+    } else {
+        u32::from(b - b'A') + 10
+    }
 }
 
 // The value of up to eight capital hex digits.
-fn scan_hex(s: &[u8]) -> Num
+fn scan_hex(s: &[u8]) -> Option<u32>
     requires { length s.now ≤ 8 }
-    ensures { num result ≡ hex_from 0 s.now }
+    ensures { result ≡ hex_from 0 s.now }
 {
     let mut acc: u32 = 0;
-    let mut i: usize = 0;
-    while i < s.len() {
-        let b = s[i];
+    for &b in s {
         if !digits::is_hex(b) {
-            return Num::Bad;
+            return None;
         }
         acc = acc * 16 + hex_value(b);
-        i += 1;
     }
-    Num::Is(acc)
+    Some(acc)
 }
 
 // The value of `lo` to `hi` capital hex digits, and of no more than eight.
-pub fn hex_digits(s: &[u8], lo: usize, hi: usize) -> Num
-    ensures { num result ≡ hex_digits_of lo hi s.now }
+pub fn hex_digits(s: &[u8], lo: usize, hi: usize) -> Option<u32>
+    ensures { result ≡ hex_digits_of lo hi s.now }
 {
-    if s.len() < lo {
-        return Num::Bad;
-    }
-    if hi < s.len() {
-        return Num::Bad;
-    }
-    if 8 < s.len() {
-        return Num::Bad;
+    if s.len() < lo || hi < s.len() || 8 < s.len() {
+        return None;
     }
     scan_hex(s)
 }
@@ -63,26 +49,20 @@ fn ones(width: usize) -> u32
     requires { width ≤ 8 }
     ensures { result ≡ 16 ^ width - 1 }
 {
-    let mut v: u32 = 0;
-    let mut i: usize = 0;
-    while i < width {
-        v = v * 16 + 15;
-        i += 1;
-    }
-    v
+    (16u64.pow(width as u32) - 1) as u32
 }
 
 // The mask that a field which is not empty says.
-fn allowed(f: &[u8], width: usize) -> Num
-    ensures { num result ≡ satellites_of width f.now }
+fn allowed(f: &[u8], width: usize) -> Option<u32>
+    ensures { result ≡ satellites_of width f.now }
 {
     if !digits::same_bytes(f, b"-1") {
         return hex_digits(f, 1, width);
     }
     if 8 < width {
-        return Num::Bad;
+        return None;
     }
-    Num::Is(ones(width))
+    Some(ones(width))
 }
 
 // `7FFEFFFF`, `1` or `-1`: the satellites that a command allows, in up to `width` capital hex digits, or
@@ -105,20 +85,14 @@ pub fn whole(f: &[u8], width: usize) -> Got
 pub fn is_port_mask(v: u32) -> bool
     ensures { result ≡ is_port_mask v }
 {
-    (v / 128 % 2 == 0) & (v / 4096 == 0)
+    v / 128 % 2 == 0 && v / 4096 == 0
 }
 
 // The port mask that a field which is not empty says.
-fn port_bits(f: &[u8]) -> Num
-    ensures { num result ≡ port_mask_of f.now }
+fn port_bits(f: &[u8]) -> Option<u32>
+    ensures { result ≡ port_mask_of f.now }
 {
-    let Num::Is(v) = hex_digits(f, 4, 4) else {
-        return Num::Bad;
-    };
-    if !is_port_mask(v) {
-        return Num::Bad;
-    }
-    Num::Is(v)
+    hex_digits(f, 4, 4).filter(|&v| is_port_mask(v))
 }
 
 // `0F79`: the mask of a port, four capital hex digits with the bits 7 and 12 to 15 zero; an empty field
@@ -127,25 +101,4 @@ pub fn port_mask(f: &[u8]) -> Got
     ensures { result ≡ port_mask_form f.now }
 {
     form::got::maybe(f, port_bits(f))
-}
-
-// A mask of up to `width` digits, all ones, or missing.
-pub fn satellites_in(s: &[u8], p: &[usize], k: usize, width: usize) -> Got
-    ensures { result ≡ satellites_form width (field_in p.now k s.now) }
-{
-    satellites(fields::field_in(s, p, k), width)
-}
-
-// A mask of `width` digits, never empty.
-pub fn whole_in(s: &[u8], p: &[usize], k: usize, width: usize) -> Got
-    ensures { result ≡ whole_form width (field_in p.now k s.now) }
-{
-    whole(fields::field_in(s, p, k), width)
-}
-
-// A port's mask, or missing.
-pub fn port_mask_in(s: &[u8], p: &[usize], k: usize) -> Got
-    ensures { result ≡ port_mask_form (field_in p.now k s.now) }
-{
-    port_mask(fields::field_in(s, p, k))
 }

@@ -3,8 +3,10 @@ ghost use Rattle.std.specs.Prelude.{◌%◌, [], ◌∷◌, ◌≡◌};
 ghost use Rattle.digits.specs.Hex.{hex_of};
 ghost use Rattle.digits.specs.Plain.{plain_text};
 ghost use Rattle.put.specs.Wrote.{held, Puts, PutsFields};
-ghost use Rattle.form.specs.Values.{if_there};
+ghost use Rattle.form.specs.Values.{maybe_text};
 ghost use Rattle.form_mask.specs.Masks.{print_hex};
+
+use form::sent::Sent;
 
 // The last hex digit of `v`.
 fn digit(v: u32) -> u8
@@ -43,45 +45,49 @@ fn put_eight(out: &mut [u8], at: usize, v: u32) -> usize
 }
 
 // `0F79`: the mask of a port.
-pub fn four(out: &mut [u8], at: usize, there: bool, v: u32) -> usize
-    ensures { PutsFields (held at out.old) (if_there there (print_hex 4 v) ∷ []) (held result out.new) }
+pub fn four<T: Sent>(out: &mut [u8], at: usize, v: T) -> usize
+    ensures { PutsFields (held at out.old) (maybe_text (print_hex 4) (T.sent v) ∷ []) (held result out.new) }
 {
+    let m = v.sent();
     let a = put::put(out, at, 44);
-    if there {
-        return put_four(out, a, v);
+    if m.there {
+        return put_four(out, a, m.value);
     }
     a
 }
 
 // `FFFFFE`: a mask of GLONASS satellites.
-pub fn six(out: &mut [u8], at: usize, there: bool, v: u32) -> usize
-    ensures { PutsFields (held at out.old) (if_there there (print_hex 6 v) ∷ []) (held result out.new) }
+pub fn six<T: Sent>(out: &mut [u8], at: usize, v: T) -> usize
+    ensures { PutsFields (held at out.old) (maybe_text (print_hex 6) (T.sent v) ∷ []) (held result out.new) }
 {
+    let m = v.sent();
     let a = put::put(out, at, 44);
-    if there {
-        return put_six(out, a, v);
+    if m.there {
+        return put_six(out, a, m.value);
     }
     a
 }
 
 // `7FFEFFFF`: a mask of GPS satellites.
-pub fn eight(out: &mut [u8], at: usize, there: bool, v: u32) -> usize
-    ensures { PutsFields (held at out.old) (if_there there (print_hex 8 v) ∷ []) (held result out.new) }
+pub fn eight<T: Sent>(out: &mut [u8], at: usize, v: T) -> usize
+    ensures { PutsFields (held at out.old) (maybe_text (print_hex 8) (T.sent v) ∷ []) (held result out.new) }
 {
+    let m = v.sent();
     let a = put::put(out, at, 44);
-    if there {
-        return put_eight(out, a, v);
+    if m.there {
+        return put_eight(out, a, m.value);
     }
     a
 }
 
 // `4800`: a number without needless zeros.
-pub fn plain(out: &mut [u8], at: usize, there: bool, v: u32) -> usize
-    ensures { PutsFields (held at out.old) (if_there there (plain_text v) ∷ []) (held result out.new) }
+pub fn plain<T: Sent>(out: &mut [u8], at: usize, v: T) -> usize
+    ensures { PutsFields (held at out.old) (maybe_text plain_text (T.sent v) ∷ []) (held result out.new) }
 {
+    let m = v.sent();
     let a = put::put(out, at, 44);
-    if there {
-        return put::put_plain(out, a, v);
+    if m.there {
+        return put::put_plain(out, a, m.value);
     }
     a
 }

@@ -1,7 +1,7 @@
 -- A number in its range, and digits of a fixed width, are read back as they were written.
 use Prim.Native.Nat.{◌+◌, ◌<◌, ◌^◌, ◌≤◌, ℕ}
 use mathlib.Core.Bool.{Bool, true}
-use mathlib.Core.Option.{some}
+use Rattle.std.specs.Prelude.{Some}
 use mathlib.Core.Path.{◌≡◌}
 use native.Mathlib.Omega.{arith}
 use lib.Dec.{lit<}
@@ -22,7 +22,7 @@ use Rattle.form_number.proofs.Written.{height-written, number-written}
 
 -- Digits of a fixed width.
 module _ (w lo hi : ℕ) (a : 1 ≤ w) (b : w ≤ 9) (c : hi < 10 ^ w) where
-  fixed-one : (v : ℕ) → lo ≤ v → v ≤ hi → fixed_of w lo hi (print_fixed w v) ≡ some v
+  fixed-one : (v : ℕ) → lo ≤ v → v ≤ hi → fixed_of w lo hi (print_fixed w v) ≡ Some v
   fixed-one v l h = fixed_reads w lo hi v b (omega arith) l h
 
   pub fixed_back : (there : Bool) (v : ℕ) → range_wrong lo hi there v ≡ 0

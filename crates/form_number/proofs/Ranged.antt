@@ -3,7 +3,7 @@
 use Prim.Native.Nat.{◌%◌, ◌*◌, ◌+◌, ◌-◌, ◌/◌, ◌<◌, ◌^◌, ◌≤◌, suc, zero, ℕ}
 use mathlib.Core.Bool.{Bool, cond, false, true}
 use mathlib.Core.List.{[], ◌∷◌, List}
-use mathlib.Core.Option.{some}
+use Rattle.std.specs.Prelude.{Some}
 use mathlib.Core.Path.{◌≡◌, refl}
 use native.Mathlib.Nat.{lt_of_lt_of_le, pow-le-pow_right}
 use native.Mathlib.Omega.{arith}
@@ -28,10 +28,10 @@ use Rattle.form_number.proofs.NumberSides.{below-is, height-is, minus, number_is
 
 -- Digits of a fixed width.
 module _ (w lo hi : ℕ) where
-  fixed-range : (f : List ℕ) (v : ℕ) → fixed_of w lo hi f ≡ some v → (lo ≤ v) × (v ≤ hi)
+  fixed-range : (f : List ℕ) (v : ℕ) → fixed_of w lo hi f ≡ Some v → (lo ≤ v) × (v ≤ hi)
   fixed-range f v e = let i = fixed-is w lo hi f v e in (i.2, i.3)
 
-  fixed-long : (f : List ℕ) (v : ℕ) → fixed_of w lo hi f ≡ some v → length (print_fixed w v) ≤ length f
+  fixed-long : (f : List ℕ) (v : ℕ) → fixed_of w lo hi f ≡ Some v → length (print_fixed w v) ≤ length f
   fixed-long f v e = let i = fixed-is w lo hi f v e in rw i.0 (omega arith)
 
   pub fixed_in : (f : List ℕ) → (maybe_of f (fixed_of w lo hi f)).wrong ≡ 0

@@ -2,7 +2,7 @@
 use Prim.Native.Nat.{ℕ}
 use mathlib.Core.Bool.{Bool, false, true}
 use mathlib.Core.List.{[], ◌∷◌, List}
-use mathlib.Core.Option.{none, Option, some}
+use Rattle.std.specs.Prelude.{None, Option, Some}
 use mathlib.Core.Path.{◌≡◌, refl, sym}
 use native.Mathlib.Omega.{arith}
 use lib.Dec.{eqb}
@@ -28,8 +28,8 @@ module _ (w lo hi : ℕ) (f : List ℕ) where
   exact_same e = go (fixed_of w lo hi f) refl e
     where
       go : (o : Option ℕ) → fixed_of w lo hi f ≡ o → (got_of o).wrong ≡ 0 → print_fixed w (got_of o).value ≡ f
-      go none q i = let z : ⊥ = omega arith in absurd z
-      go (some v) q i = sym (fixed-is w lo hi f v q).0
+      go None q i = let z : ⊥ = omega arith in absurd z
+      go (Some v) q i = sym (fixed-is w lo hi f v q).0
 
   pub fixed_same : (fixed_form w lo hi f).wrong ≡ 0 → maybe_text (print_fixed w) (kept_of (fixed_form w lo hi f)) ≡ f
   unfolding maybe_of
@@ -38,8 +38,8 @@ module _ (w lo hi : ℕ) (f : List ℕ) where
       go : (t : Bool) (o : Option ℕ) → eqb (length f) 0 ≡ t → fixed_of w lo hi f ≡ o → (G.pick t missing (got_of o)).wrong ≡ 0
           → maybe_text (print_fixed w) (kept_of (G.pick t missing (got_of o))) ≡ f
       go true o p q i = empty-is f (eqb-true (length f) 0 p)
-      go false none p q i = let z : ⊥ = omega arith in absurd z
-      go false (some v) p q i = sym (fixed-is w lo hi f v q).0
+      go false None p q i = let z : ⊥ = omega arith in absurd z
+      go false (Some v) p q i = sym (fixed-is w lo hi f v q).0
 
 pub same-exact : (w lo hi : ℕ) → SameForm (exact w lo hi)
 same-exact w lo hi = record { same = λ field e. only-first field _ (sym (exact_same w lo hi (field 1) e)) }

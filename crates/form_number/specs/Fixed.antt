@@ -1,6 +1,6 @@
 -- Digits of a fixed width, in a range; the numbers of satellites.
 use Rattle.std.specs.Prelude.{ℕ, List}
-use Rattle.std.proofs.Math.Option.{Option}
+use Rattle.std.specs.Prelude.{Option}
 use Rattle.digits.specs.Decimal.{digits_of}
 use Rattle.form.specs.Got.{got_of, maybe_of, within_of}
 use Rattle.form.specs.declared.got.Got.{Got}

@@ -1,62 +1,48 @@
-// The values of this form from numbers, each from its place on. A number that is no mark makes its value missing and not
-// zero, which the writers refuse.
-ghost use Rattle.std.specs.Prelude.{◌≡◌};
+// The values of this form from numbers.
 ghost use Rattle.form_number.specs.Numbers.{number_layout, knots_layout, kmh_layout, signed_layout};
 
 use crate::{Kmh, Knots, Number, Signed};
+use form::Maybe;
+use form::from_numbers::FromNumbers;
 
-pub fn number(n: &[i64], i: u16) -> Number
-    ensures { result ≡ number_layout.at n.now i }
-{
-    let at = i as usize;
-    let there = numbers::there_at(n, at);
-    if numbers::is_mark_at(n, at) {
-        return Number {
-            there,
-            value: numbers::whole_at(n, at + 1),
-        };
+impl FromNumbers for Number {
+    ghost layout = { number_layout };
+
+    fn at(n: &[i64], i: usize) -> Number {
+        let Maybe { there, value } = Maybe::at(n, i);
+        Number { there, value }
     }
-    Number { there, value: 1 }
 }
 
-pub fn knots(n: &[i64], i: u16) -> Knots
-    ensures { result ≡ knots_layout.at n.now i }
-{
-    let at = i as usize;
-    let there = numbers::there_at(n, at);
-    if numbers::is_mark_at(n, at) {
-        return Knots {
-            there,
-            value: numbers::whole_at(n, at + 1),
-        };
+impl FromNumbers for Knots {
+    ghost layout = { knots_layout };
+
+    fn at(n: &[i64], i: usize) -> Knots {
+        let Maybe { there, value } = Maybe::at(n, i);
+        Knots { there, value }
     }
-    Knots { there, value: 1 }
 }
 
-pub fn kmh(n: &[i64], i: u16) -> Kmh
-    ensures { result ≡ kmh_layout.at n.now i }
-{
-    let at = i as usize;
-    let there = numbers::there_at(n, at);
-    if numbers::is_mark_at(n, at) {
-        return Kmh {
-            there,
-            value: numbers::whole_at(n, at + 1),
-        };
+impl FromNumbers for Kmh {
+    ghost layout = { kmh_layout };
+
+    fn at(n: &[i64], i: usize) -> Kmh {
+        let Maybe { there, value } = Maybe::at(n, i);
+        Kmh { there, value }
     }
-    Kmh { there, value: 1 }
 }
 
-pub fn signed(n: &[i64], i: u16) -> Signed
-    ensures { result ≡ signed_layout.at n.now i }
-{
-    let at = i as usize;
-    let there = numbers::there_at(n, at);
-    if numbers::is_mark_at(n, at) {
-        return Signed {
-            there,
-            value: numbers::signed_at(n, at + 1),
-        };
+impl FromNumbers for Signed {
+    ghost layout = { signed_layout };
+
+    fn at(n: &[i64], i: usize) -> Signed {
+        let there = numbers::there_at(n, i);
+        if numbers::is_mark_at(n, i) {
+            return Signed {
+                there,
+                value: numbers::signed_at(n, i + 1),
+            };
+        }
+        Signed { there, value: 1 }
     }
-    Signed { there, value: 1 }
 }

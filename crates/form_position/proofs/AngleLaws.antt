@@ -2,7 +2,8 @@
 use Prim.Native.Nat.{◌*◌, ◌+◌, ◌<◌, ◌≤◌, suc, ℕ}
 use mathlib.Core.Bool.{◌&&◌, ◌||◌, Bool, false, not, true}
 use mathlib.Core.List.{List}
-use mathlib.Core.Option.{bind, none, Option, some-injective, some}
+use Rattle.std.specs.Prelude.{None, Option, Some}
+use Rattle.digits.proofs.Options.{some-injective}
 use mathlib.Core.Path.{◌≡◌, refl, sym}
 use native.Mathlib.Omega.{arith}
 use lib.Dec.{eqb, ltb}
@@ -25,18 +26,18 @@ use Rattle.form_position.specs.Angle.{angle_of, both_of, joined_of, latitude_of,
 use Rattle.form_position.specs.Angle.{sided_of, variation_form, wrong_int}
 use Rattle.form_position.specs.declared.Position.{Position}
 
-joined-le : (limit : ℕ) (d m p : Option ℕ) (v : ℕ) → joined_of limit d m p ≡ some v → v ≤ limit
-unfolding joined_of bind
-joined-le limit none m p v e = nothing v e
-joined-le limit (some d) none p v e = nothing v e
-joined-le limit (some d) (some m) none v e = nothing v e
-joined-le limit (some d) (some m) (some p) v e =
+joined-le : (limit : ℕ) (d m p : Option ℕ) (v : ℕ) → joined_of limit d m p ≡ Some v → v ≤ limit
+unfolding joined_of
+joined-le limit None m p v e = nothing v e
+joined-le limit (Some d) None p v e = nothing v e
+joined-le limit (Some d) (Some m) None v e = nothing v e
+joined-le limit (Some d) (Some m) (Some p) v e =
     let t = through _ _ _ e in
     rw (some-injective (d * 600000 + m * 10000 + p) v t.1) at
     (leb-true (d * 600000 + m * 10000 + p) limit (and_right (ltb m 60) _ t.0))
 
 -- An angle is at most its limit.
-pub angle-le : (w limit : ℕ) (f : List ℕ) (v : ℕ) → angle_of w limit f ≡ some v → v ≤ limit
+pub angle-le : (w limit : ℕ) (f : List ℕ) (v : ℕ) → angle_of w limit f ≡ Some v → v ≤ limit
 unfolding angle_of
 angle-le w limit f v e =
     joined-le limit (digits_of w w (take w f)) (digits_of 2 2 (take 2 (drop w f))) (digits_of 4 4 (drop (w + 3) f)) v
@@ -44,8 +45,8 @@ angle-le w limit f v e =
 
 -- What a reader of angles answers can be held with either sign.
 pub angle-under : (w limit : ℕ) (f : List ℕ) (o : Option ℕ) → limit < 1000000000 → o ≡ angle_of w limit f → Under 1000000000 o
-angle-under w limit f (some v) h e = omega (arith, angle-le w limit f v (sym e))
-angle-under w limit f none h e = tt
+angle-under w limit f (Some v) h e = omega (arith, angle-le w limit f v (sym e))
+angle-under w limit f None h e = tt
 
 -- One of two values, each of which is small.
 module _ (k : ℕ) where
@@ -58,9 +59,9 @@ module _ (k : ℕ) where
 
   lettered-size : (plus minus u : List ℕ) (o : Option ℕ) → Under (suc k) o → Small (lettered_of plus minus u o)
   unfolding lettered_of
-  lettered-size plus minus u none h = omega arith
-  lettered-size plus minus u (some v) h =
-      chosen (same u plus || same u minus) (got_int_of (some (signed (same u minus) v))) (wrong_int 2 true)
+  lettered-size plus minus u None h = omega arith
+  lettered-size plus minus u (Some v) h =
+      chosen (same u plus || same u minus) (got_int_of (Some (signed (same u minus) v))) (wrong_int 2 true)
       (rw (size (same u minus) v) (omega arith)) (omega arith)
 
   sided-size : (plus minus f u : List ℕ) (o : Option ℕ) → Under (suc k) o → Small (sided_of plus minus f u o)
@@ -70,8 +71,8 @@ module _ (k : ℕ) where
       (chosen (eqb (length u) 0) missing_int (wrong_int 2 false) (omega arith) (omega arith)) (lettered-size plus minus u o h)
 
   angle-small : (w : ℕ) (f : List ℕ) (o : Option ℕ) → angle_of w k f ≡ o → Under (suc k) o
-  angle-small w f (some v) e = omega (arith, angle-le w k f v e)
-  angle-small w f none e = tt
+  angle-small w f (Some v) e = omega (arith, angle-le w k f v e)
+  angle-small w f None e = tt
 
 -- A place within two distances.
 abbrev Within : ℕ → ℕ → Position → Type 0
@@ -103,8 +104,8 @@ position-range lat ns lon ew =
     (angle-small 108000000 3 lon (angle_of 3 108000000 lon) refl))
 
 below-small : (f : List ℕ) (o : Option ℕ) → below_of 180000 f ≡ o → Under 180000 o
-below-small f (some v) e = (below-lt 180000 f v e).1
-below-small f none e = tt
+below-small f (Some v) e = (below-lt 180000 f v e).1
+below-small f None e = tt
 
 -- A variation is below 180 degrees east or west.
 pub variation-range : (f u : List ℕ) → nat_abs (variation_form f u).value < 180000

@@ -4,7 +4,8 @@
 use Prim.Native.Nat.{◌%◌, ◌*◌, ◌+◌, ◌/◌, ◌<◌, ◌^◌, ◌≤◌, ℕ}
 use mathlib.Core.Bool.{◌&&◌}
 use mathlib.Core.List.{◌++◌, ◌∷◌, List}
-use mathlib.Core.Option.{bind, none, Option, some-injective, some}
+use Rattle.std.specs.Prelude.{None, Option, Some}
+use Rattle.digits.proofs.Options.{some-injective}
 use mathlib.Core.Path.{◌∙◌, ◌≡◌, refl, sym}
 use native.Mathlib.Omega.{arith}
 use lib.Dec.{eqb, leb, ltb}
@@ -30,20 +31,20 @@ record Joined (limit : ℕ) (od om op : Option ℕ) (v : ℕ) : Type 0 where
   d : ℕ
   m : ℕ
   p : ℕ
-  degrees : od ≡ some d
-  minutes : om ≡ some m
-  parts : op ≡ some p
+  degrees : od ≡ Some d
+  minutes : om ≡ Some m
+  parts : op ≡ Some p
   below : m < 60
   value : d * 600000 + m * 10000 + p ≡ v
   most : v ≤ limit
 
-joined_is : (limit : ℕ) (od om op : Option ℕ) (v : ℕ) → joined_of limit od om op ≡ some v → Joined limit od om op v
-unfolding joined_of bind
-joined_is limit none om op v e = nothing v e
-joined_is limit (some d) none op v e = nothing v e
-joined_is limit (some d) (some m) none v e = nothing v e
-joined_is limit (some d) (some m) (some p) v e =
-    let t = through (ltb m 60 && leb (d * 600000 + m * 10000 + p) limit) (some (d * 600000 + m * 10000 + p)) v e in
+joined_is : (limit : ℕ) (od om op : Option ℕ) (v : ℕ) → joined_of limit od om op ≡ Some v → Joined limit od om op v
+unfolding joined_of
+joined_is limit None om op v e = nothing v e
+joined_is limit (Some d) None op v e = nothing v e
+joined_is limit (Some d) (Some m) None v e = nothing v e
+joined_is limit (Some d) (Some m) (Some p) v e =
+    let t = through (ltb m 60 && leb (d * 600000 + m * 10000 + p) limit) (Some (d * 600000 + m * 10000 + p)) v e in
     let q : d * 600000 + m * 10000 + p ≡ v = some-injective (d * 600000 + m * 10000 + p) v t.1 in
     record {
       d = d;
@@ -82,7 +83,7 @@ same_parts : {a b c x y z : List ℕ} → a ≡ x → b ≡ y → c ≡ z → a 
 same_parts e f g = rw (e, f, g)
 
 -- What reads is the value in degrees and minutes, at most the limit.
-pub angle-is : (w limit : ℕ) (f : List ℕ) (v : ℕ) → angle_of w limit f ≡ some v → (f ≡ angle_text w v) × (v ≤ limit) × (v < 10 ^ w * 600000)
+pub angle-is : (w limit : ℕ) (f : List ℕ) (v : ℕ) → angle_of w limit f ≡ Some v → (f ≡ angle_text w v) × (v ≤ limit) × (v < 10 ^ w * 600000)
 unfolding angle_of
 angle-is w limit f v e =
     let t = through (eqb (length f) (w + 7) && eqb (get_or f (w + 2) 0) 46)
@@ -98,8 +99,8 @@ angle-is w limit f v e =
     (c ∙ same_parts a.0 b.0 k.0 ∙ s, j.most, room (10 ^ w) j.d j.m j.p v a.1 j.below k.1 j.value)
 
 -- And each value that is within the limit, and whose degrees fit, reads.
-pub angle-reads : (w limit v : ℕ) → w ≤ 9 → v ≤ limit → v < 10 ^ w * 600000 → angle_of w limit (angle_text w v) ≡ some v
-unfolding angle_of joined_of bind
+pub angle-reads : (w limit v : ℕ) → w ≤ 9 → v ≤ limit → v < 10 ^ w * 600000 → angle_of w limit (angle_text w v) ≡ Some v
+unfolding angle_of joined_of
 angle-reads w limit v h i k =
     let a = print_fixed w (v / 600000) in
     let b = print_fixed 2 (v / 10000 % 60) in

@@ -2,7 +2,7 @@
 use Prim.Native.Nat.{ℕ}
 use mathlib.Core.Bool.{◌||◌, Bool, false, not, true}
 use mathlib.Core.List.{[], List}
-use mathlib.Core.Option.{none, Option, some}
+use Rattle.std.specs.Prelude.{None, Option, Some}
 use mathlib.Core.Path.{◌≡◌, ap, refl}
 use lib.Dec.{lit<, lit≤}
 use Rattle.digits.specs.Ascii.{ascii}
@@ -27,10 +27,10 @@ module _ (plus minus u : List ℕ) where
   unfolding lettered_of
   sided-is true true o = record { is-there = refl; is-bad = refl; most = lit≤ tt }
   sided-is true false o = record { is-there = refl; is-bad = refl; most = lit≤ tt }
-  sided-is false t none = record { is-there = refl; is-bad = refl; most = lit≤ tt }
-  sided-is false t (some v) = go (same u plus || same u minus)
+  sided-is false t None = record { is-there = refl; is-bad = refl; most = lit≤ tt }
+  sided-is false t (Some v) = go (same u plus || same u minus)
     where
-      go : (r : Bool) → Sided (pick r (got_int_of (some (signed (same u minus) v))) (wrong_int 2 true)) true false
+      go : (r : Bool) → Sided (pick r (got_int_of (Some (signed (same u minus) v))) (wrong_int 2 true)) true false
       go true = record { is-there = refl; is-bad = refl; most = lit≤ tt }
       go false = record { is-there = refl; is-bad = refl; most = lit≤ tt }
 
@@ -38,8 +38,8 @@ module _ (plus minus u : List ℕ) where
       → (sided s t o).wrong ≡ 0
   unfolding lettered_of
   sided-good true t o h p q = rw (p refl)
-  sided-good false t none h p q = ap (λ (b : Bool). pick b 1 0) h
-  sided-good false t (some v) h p q = rw (q refl)
+  sided-good false t None h p q = ap (λ (b : Bool). pick b 1 0) h
+  sided-good false t (Some v) h p q = rw (q refl)
 
 -- A variation: E.
 abbrev degrees : List ℕ → Option ℕ

@@ -3,7 +3,7 @@ use Prim.Native.Nat.{◌*◌, ◌+◌, ◌<◌, ◌^◌, ◌≤◌, ℕ}
 use mathlib.Core.Bool.{◌&&◌, ◌||◌, Bool, false, not, true}
 use mathlib.Core.List.{[], ◌∷◌, List}
 use mathlib.Core.Logic.{◌⊎◌, inl, inr}
-use mathlib.Core.Option.{none, Option, some}
+use Rattle.std.specs.Prelude.{None, Option, Some}
 use mathlib.Core.Path.{◌∙◌, ◌≡◌, ap, refl, subst, sym}
 use native.Mathlib.Omega.{arith}
 use lib.Dec.{eqb, lit<, lit≤}
@@ -73,29 +73,29 @@ both_is a o e = go (eqb a.wrong 0) refl e
 -- A value that is there and not wrong was read, and has one of its letters.
 record Value (plus minus u : List ℕ) (o : Option ℕ) (z : ℤ) : Type 0 where
   v : ℕ
-  read : o ≡ some v
+  read : o ≡ Some v
   letter : Lettered plus minus v u z
 
 lettered-is : (plus minus u : List ℕ) (o : Option ℕ) → (lettered_of plus minus u o).wrong ≡ 0
     → Value plus minus u o (lettered_of plus minus u o).value
 unfolding lettered_of
-lettered-is plus minus u none e = let z : ⊥ = omega arith in absurd z
-lettered-is plus minus u (some v) e = go (same u plus) (same u minus) refl refl e
+lettered-is plus minus u None e = let z : ⊥ = omega arith in absurd z
+lettered-is plus minus u (Some v) e = go (same u plus) (same u minus) refl refl e
   where
-    go : (s t : Bool) → same u plus ≡ s → same u minus ≡ t → (pick (s || t) (got_int_of (some (signed t v))) (wrong_int 2 true)).wrong ≡ 0
-        → Value plus minus u (some v) (pick (s || t) (got_int_of (some (signed t v))) (wrong_int 2 true)).value
+    go : (s t : Bool) → same u plus ≡ s → same u minus ≡ t → (pick (s || t) (got_int_of (Some (signed t v))) (wrong_int 2 true)).wrong ≡ 0
+        → Value plus minus u (Some v) (pick (s || t) (got_int_of (Some (signed t v))) (wrong_int 2 true)).value
     go true true p q k = record { v = v; read = refl; letter = rw (same_true u minus q) second }
     go false true p q k = record { v = v; read = refl; letter = rw (same_true u minus q) second }
     go true false p q k = record { v = v; read = refl; letter = rw (same_true u plus p) first }
     go false false p q k = let z : ⊥ = omega arith in absurd z
 
 letter-reads : (plus minus u : List ℕ) (v : ℕ) (z : ℤ) → same plus minus ≡ false → Lettered plus minus v u z
-    → lettered_of plus minus u (some v) ≡ got_int_of (some z)
+    → lettered_of plus minus u (Some v) ≡ got_int_of (Some z)
 unfolding lettered_of
 letter-reads plus minus _ v _ n first = rw (same_refl plus, n)
 letter-reads plus minus _ v _ n second = rw (same_refl minus) (other (same minus plus))
   where
-    other : (t : Bool) → pick (t || true) (got_int_of (some (signed true v))) (wrong_int 2 true) ≡ got_int_of (some (signed true v))
+    other : (t : Bool) → pick (t || true) (got_int_of (Some (signed true v))) (wrong_int 2 true) ≡ got_int_of (Some (signed true v))
     other true = refl
     other false = refl
 
@@ -106,10 +106,10 @@ empty (b ∷ f) e = let z : ⊥ = omega (arith, eqb-true (length (b ∷ f)) 0 e)
 -- A value with its letter is marked as there, also where it is wrong.
 there-is : (plus minus u : List ℕ) (o : Option ℕ) → (lettered_of plus minus u o).there ≡ false → ⊥
 unfolding lettered_of
-there-is plus minus u none q = true-false refl q
-there-is plus minus u (some v) q = which (same u plus || same u minus) q
+there-is plus minus u None q = true-false refl q
+there-is plus minus u (Some v) q = which (same u plus || same u minus) q
   where
-    which : (t : Bool) → (pick t (got_int_of (some (signed (same u minus) v))) (wrong_int 2 true)).there ≡ false → ⊥
+    which : (t : Bool) → (pick t (got_int_of (Some (signed (same u minus) v))) (wrong_int 2 true)).there ≡ false → ⊥
     which true r = true-false refl r
     which false r = true-false refl r
 
@@ -157,7 +157,7 @@ text-length : (w v : ℕ) → length (angle_text w v) ≡ w + 7
 text-length w v = simp (length-append, length-fixed) (omega arith)
 
 half-reads : (plus minus : List ℕ) (w limit : ℕ) {f u : List ℕ} {z : ℤ} → w ≤ 9 → limit < 10 ^ w * 600000 → same plus minus ≡ false
-    → Placed plus minus w limit f u z → sided_of plus minus f u (angle_of w limit f) ≡ got_int_of (some z)
+    → Placed plus minus w limit f u z → sided_of plus minus f u (angle_of w limit f) ≡ got_int_of (Some z)
 unfolding sided_of
 half-reads plus minus w limit {f} {u} {z} h k n (placed {v} i l) =
     let m : (length (angle_text w v) ≡ 0 → ⊥) = λ e. omega (arith, text-length w v) in
@@ -263,7 +263,7 @@ module _ (f u : List ℕ) where
       go false t x y a b c d p q = absurd (there-is (ascii "E") (ascii "W") u (below_of 180000 f) q)
 
 -- And each such pair of fields reads.
-pub variation-reads : {f u : List ℕ} {z : ℤ} → Varied f u z → variation_form f u ≡ got_int_of (some z)
+pub variation-reads : {f u : List ℕ} {z : ℤ} → Varied f u z → variation_form f u ≡ got_int_of (Some z)
 unfolding variation_form same
 variation-reads {f} {u} {z} (varied {v = v} w h l) =
     rw (ne_eqb (length f) 0 (not-empty w), below-reads 180000 w h) (letter-reads (ascii "E") (ascii "W") u v z refl l)

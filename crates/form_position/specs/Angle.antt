@@ -1,6 +1,7 @@
 -- Positions: latitude and longitude with their letters, at most 90 and 180 degrees; and the magnetic variation.
 use Rattle.std.specs.Prelude.{◌%◌, ◌*◌, ◌+◌, ◌/◌, ℕ, ◌&&◌, ◌||◌, Bool, cond, false, not, true, ◌++◌, ◌∷◌, List, eqb, leb, ltb, pos, drop, get_or, length, take}
-use Rattle.std.proofs.Math.Option.{bind, none, Option, some}
+use Rattle.std.specs.Prelude.{None, Option, Some}
+use Rattle.digits.specs.Bind.{bind}
 use Rattle.digits.specs.Ascii.{ascii}
 use Rattle.digits.specs.Decimal.{digits_of, print_fixed}
 use Rattle.digits.specs.Pick.{pick}
@@ -20,17 +21,16 @@ longitude_most = 108000000
 
 -- Degrees and minutes joined, in ten-thousandths of a minute: minutes are below 60, and all is at most the limit.
 unfoldable pub joined_of : ℕ → Option ℕ → Option ℕ → Option ℕ → Option ℕ
-unfolding bind
 joined_of limit od om op =
     bind od λ d. bind om λ m. bind op λ p.
-    cond (ltb m 60 && leb (d * 600000 + m * 10000 + p) limit) (some (d * 600000 + m * 10000 + p)) none
+    cond (ltb m 60 && leb (d * 600000 + m * 10000 + p) limit) (Some (d * 600000 + m * 10000 + p)) None
 
 -- w digits of degrees, two of minutes, a point and four more.
 unfoldable pub angle_of : ℕ → ℕ → List ℕ → Option ℕ
 angle_of w limit f =
     cond (eqb (length f) (w + 7) && eqb (get_or f (w + 2) 0) 46)
     (joined_of limit (digits_of w w (take w f)) (digits_of 2 2 (take 2 (drop w f))) (digits_of 4 4 (drop (w + 3) f)))
-    none
+    None
 
 -- A value in ten-thousandths of a minute, written so.
 abbrev pub angle_text : ℕ → ℕ → List ℕ
@@ -49,9 +49,9 @@ wrong_int n there = record { wrong = n; there = there; value = pos 0 }
 
 -- A value and one of its two letters, of which the second negates it.
 unfoldable pub lettered_of : List ℕ → List ℕ → List ℕ → Option ℕ → GotInt
-lettered_of plus minus u none = wrong_int 1 true
-lettered_of plus minus u (some v) =
-    pick (same u plus || same u minus) (got_int_of (some (signed (same u minus) v))) (wrong_int 2 true)
+lettered_of plus minus u None = wrong_int 1 true
+lettered_of plus minus u (Some v) =
+    pick (same u plus || same u minus) (got_int_of (Some (signed (same u minus) v))) (wrong_int 2 true)
 
 -- A value with its letter, or both empty.
 unfoldable pub sided_of : List ℕ → List ℕ → List ℕ → List ℕ → Option ℕ → GotInt

@@ -4,12 +4,14 @@ ghost use Rattle.form_position.specs.Values.{placed_of};
 
 use crate::{Place, Position};
 
-pub fn placed(p: Position) -> Place
-    ensures { result ≡ placed_of p }
-{
-    Place {
-        there: p.there,
-        lat: p.lat,
-        lon: p.lon,
+impl From<Position> for Place {
+    ghost from_gives = { λ p v. v ≡ placed_of p };
+
+    fn from(p: Position) -> Place {
+        Place {
+            there: p.there,
+            lat: p.lat,
+            lon: p.lon,
+        }
     }
 }

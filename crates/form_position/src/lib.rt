@@ -11,7 +11,7 @@ pub mod text;
 // Which of the four fields is wrong, counted from 1, or 0 for none; whether the position is there;
 // and both values in ten-thousandths of a minute, south and west negative, 0 where it is missing
 // or wrong.
-#[derive(Clone, Copy)]
+#[derive(Clone, Copy, Default)]
 pub struct Position {
     pub wrong: u8,
     pub there: bool,

@@ -9,10 +9,10 @@ pub fn place(p: Place) -> u8
     ensures { result ≡ place_wrong p }
 {
     if form::range::signed(p.there, p.lat, 54000000) != 0 {
-        return 1;
+        1
+    } else if form::range::signed(p.there, p.lon, 108000000) != 0 {
+        3
+    } else {
+        0
     }
-    if form::range::signed(p.there, p.lon, 108000000) != 0 {
-        return 3;
-    }
-    0
 }

@@ -1,104 +1,72 @@
 // Positions and the magnetic variation, read.
 ghost use Rattle.std.specs.Prelude.{◌≤◌, [], ◌∷◌, ◌≡◌};
-ghost use Rattle.digits.specs.Means.{num};
 ghost use Rattle.digits.specs.Sign.{Under};
-ghost use Rattle.fields.specs.Places.{field_in};
-ghost use Rattle.form_position.specs.Angle.{angle_of, both_of, joined_of, lettered_of, position_form, refused_at, sided_of, variation_form};
+ghost use Rattle.form_position.specs.Angle.{angle_of, both_of, lettered_of, position_form, refused_at, sided_of, variation_form, wrong_int};
 
 use crate::Position;
-use digits::Num;
 use form::got::GotInt;
+use form::unit::only;
 
-// Degrees, minutes and the minute's four digits as ten-thousandths of a minute; bad where the
+// `w` digits of degrees, two of minutes, a point and four more, as ten-thousandths of a minute; none where the
 // minutes are not below 60, or the whole is past `limit`.
-fn joined(d: Num, m: Num, p: Num, limit: u32) -> Num
-    requires { Under 1000 (num d) × Under 10000 (num p) }
-    ensures { num result ≡ joined_of limit (num d) (num m) (num p) }
+fn angle(f: &[u8], w: usize, limit: u32) -> Option<u32>
+    requires { w ≤ 3 }
+    ensures { result ≡ angle_of w limit f.now }
 {
-    let Num::Is(dv) = d else {
-        return Num::Bad;
-    };
-    let Num::Is(mv) = m else {
-        return Num::Bad;
-    };
-    let Num::Is(pv) = p else {
-        return Num::Bad;
-    };
-    if 60 <= mv {
-        return Num::Bad;
+    if f.len() != w + 7 || f[w + 2] != b'.' {
+        return None;
     }
-    let v = dv * 600000 + mv * 10000 + pv;
-    if limit < v {
-        return Num::Bad;
+    let degrees = digits::digits(&f[..w], w, w)?;
+    let minutes = digits::digits(&f[w..w + 2], 2, 2)?;
+    let parts = digits::digits(&f[w + 3..], 4, 4)?;
+    if 60 <= minutes {
+        return None;
     }
-    Num::Is(v)
+    let v = degrees * 600000 + minutes * 10000 + parts;
+    (v <= limit).then_some(v)
 }
 
-// `w` digits of degrees, two of minutes, a point and four more.
-fn angle(f: &[u8], w: usize, limit: u32) -> Num
-    requires { w ≤ 3 }
-    ensures { num result ≡ angle_of w limit f.now }
+// The wrong one of two fields, of which the first is there or empty.
+fn wrong_int(wrong: u8, there: bool) -> GotInt
+    ensures { result ≡ wrong_int wrong there }
 {
-    if f.len() != w + 7 {
-        return Num::Bad;
+    GotInt {
+        wrong,
+        there,
+        value: 0,
     }
-    if f[w + 2] != b'.' {
-        return Num::Bad;
-    }
-    joined(
-        digits::digits(&f[0..w], w, w),
-        digits::digits(&f[w..w + 2], 2, 2),
-        digits::digits(&f[w + 3..], 4, 4),
-        limit,
-    )
 }
 
 // A value that is there, with its letter: 1 where the value is wrong, 2 where the letter is neither.
-fn lettered(n: Num, u: &[u8], plus: u8, minus: u8) -> GotInt
-    requires { Under 1000000000 (num n) }
-    ensures { result ≡ lettered_of (plus ∷ []) (minus ∷ []) u.now (num n) }
+fn lettered(n: Option<u32>, u: &[u8], plus: u8, minus: u8) -> GotInt
+    requires { Under 1000000000 n }
+    ensures { result ≡ lettered_of (plus ∷ []) (minus ∷ []) u.now n }
 {
-    let Num::Is(v) = n else {
-        return GotInt {
-            wrong: 1,
-            there: true,
-            value: 0,
-        };
+    let Some(v) = n else {
+        return wrong_int(1, true);
     };
-    let south = form::unit::only(u, minus);
-    if !(form::unit::only(u, plus) | south) {
-        return GotInt {
-            wrong: 2,
-            there: true,
-            value: 0,
-        };
+    let negative = only(u, minus);
+    if !negative && !only(u, plus) {
+        return wrong_int(2, true);
     }
     GotInt {
         wrong: 0,
         there: true,
-        value: digits::sign::held(v, south),
+        value: digits::sign::held(v, negative),
     }
 }
 
 // A value with its letter, or both empty.
-fn sided(f: &[u8], u: &[u8], n: Num, plus: u8, minus: u8) -> GotInt
-    requires { Under 1000000000 (num n) }
-    ensures { result ≡ sided_of (plus ∷ []) (minus ∷ []) f.now u.now (num n) }
+fn sided(f: &[u8], u: &[u8], n: Option<u32>, plus: u8, minus: u8) -> GotInt
+    requires { Under 1000000000 n }
+    ensures { result ≡ sided_of (plus ∷ []) (minus ∷ []) f.now u.now n }
 {
-    if f.len() != 0 {
-        return lettered(n, u, plus, minus);
-    }
-    if u.len() != 0 {
-        return GotInt {
-            wrong: 2,
-            there: false,
-            value: 0,
-        };
-    }
-    GotInt {
-        wrong: 0,
-        there: false,
-        value: 0,
+    if !f.is_empty() {
+        lettered(n, u, plus, minus)
+    } else if u.is_empty() {
+        GotInt::default()
+    } else {
+        wrong_int(2, false)
     }
 }
 
@@ -108,9 +76,7 @@ fn refused(wrong: u8) -> Position
 {
     Position {
         wrong,
-        there: false,
-        lat: 0,
-        lon: 0,
+        ..Position::default()
     }
 }
 
@@ -121,7 +87,7 @@ fn both(a: GotInt, o: GotInt) -> Position
     if a.wrong != 0 {
         return refused(a.wrong);
     }
-    if (a.there & !o.there) | ((!a.there & o.there) | (o.wrong == 1)) {
+    if a.there != o.there || o.wrong == 1 {
         return refused(3);
     }
     if o.wrong != 0 {
@@ -149,39 +115,11 @@ pub fn position(lat: &[u8], ns: &[u8], lon: &[u8], ew: &[u8]) -> Position
 pub fn variation(f: &[u8], u: &[u8]) -> GotInt
     ensures { result ≡ variation_form f.now u.now }
 {
-    if f.len() != 0 {
-        return lettered(form_number::read::less(f, 180000), u, b'E', b'W');
+    if !f.is_empty() {
+        lettered(form_number::read::less(f, 180000), u, b'E', b'W')
+    } else if u.is_empty() || only(u, b'E') || only(u, b'W') {
+        GotInt::default()
+    } else {
+        wrong_int(2, false)
     }
-    if !((u.len() == 0) | (form::unit::only(u, b'E') | form::unit::only(u, b'W'))) {
-        return GotInt {
-            wrong: 2,
-            there: false,
-            value: 0,
-        };
-    }
-    GotInt {
-        wrong: 0,
-        there: false,
-        value: 0,
-    }
-}
-
-// Latitude with N or S and longitude with E or W, all four or none.
-pub fn position_in(s: &[u8], p: &[usize], k1: usize, k2: usize, k3: usize, k4: usize) -> Position
-    ensures { result ≡ position_form (field_in p.now k1 s.now) (field_in p.now k2 s.now)
-        (field_in p.now k3 s.now) (field_in p.now k4 s.now) }
-{
-    position(
-        fields::field_in(s, p, k1),
-        fields::field_in(s, p, k2),
-        fields::field_in(s, p, k3),
-        fields::field_in(s, p, k4),
-    )
-}
-
-// A variation with E or W, or missing.
-pub fn variation_in(s: &[u8], p: &[usize], k1: usize, k2: usize) -> GotInt
-    ensures { result ≡ variation_form (field_in p.now k1 s.now) (field_in p.now k2 s.now) }
-{
-    variation(fields::field_in(s, p, k1), fields::field_in(s, p, k2))
 }

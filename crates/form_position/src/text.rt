@@ -7,7 +7,7 @@ ghost use Rattle.form_position.specs.Angle.{angle_text};
 ghost use Rattle.form_position.specs.Values.{ew_field, lat_field, lon_field, ns_field, side_text, variation_field, variation_side};
 
 use crate::{Place, split};
-use form_number::Signed;
+use form_number::{Number, Signed};
 
 // `50.6111`: the minutes of an angle.
 fn put_arc(out: &mut [u8], at: usize, z: i32) -> usize
@@ -43,7 +43,7 @@ fn put_side(out: &mut [u8], at: usize, z: i32, plus: u8, minus: u8) -> usize
     put::put(out, at, plus)
 }
 
-// `5550.6111`
+// `5550.6111`. The mark stands beside the angle, as beside the longitude and the letters: a place has one for all four fields.
 fn latitude(out: &mut [u8], at: usize, there: bool, z: i32) -> usize
     ensures { PutsFields (held at out.old) (if_there there (angle_text 2 (nat_abs z)) ∷ []) (held result out.new) }
 {
@@ -94,7 +94,8 @@ pub fn place(out: &mut [u8], at: usize, p: Place) -> usize
 pub fn variation(out: &mut [u8], at: usize, n: Signed) -> usize
     ensures { PutsFields (held at out.old) (variation_field n ∷ variation_side n ∷ []) (held result out.new) }
 {
-    let z = n.value;
-    let a = form_number::text::number(out, at, n.there, digits::sign::size(z));
-    side(out, a, n.there, z, 69, 87)
+    let there = n.there;
+    let value = digits::sign::size(n.value);
+    let a = form_number::text::number(out, at, Number { there, value });
+    side(out, a, there, n.value, 69, 87)
 }

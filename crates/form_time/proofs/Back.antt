@@ -2,7 +2,7 @@
 use Prim.Native.Nat.{◌%◌, ◌/◌, ◌≤◌, ℕ}
 use mathlib.Core.Bool.{Bool}
 use mathlib.Core.List.{◌++◌, ◌∷◌, List}
-use mathlib.Core.Option.{some}
+use Rattle.std.specs.Prelude.{Some}
 use mathlib.Core.Path.{◌≡◌, refl}
 use native.Mathlib.Omega.{arith}
 use lib.Dec.{leb}
@@ -39,7 +39,7 @@ pub long-time : (m : Maybe) → length (maybe_text clock_text m) ≤ 9
 long-time m = length-if m.there (clock_text m.value) 9 (length-clock m.value)
 
 -- Time.
-clock-reads : (v : ℕ) → 0 ≤ v → v ≤ 8639999 → time_of (clock_text v) ≡ some v
+clock-reads : (v : ℕ) → 0 ≤ v → v ≤ 8639999 → time_of (clock_text v) ≡ Some v
 unfolding is_time
 clock-reads v l h =
     text-time (clock_text v) v (record {
@@ -66,7 +66,7 @@ pub time-back : (there : Bool) (v : ℕ) → range_wrong 0 8639999 there v ≡ 0
 time-back = maybe_back time_of clock_text 0 8639999 clock-reads clock-filled
 
 -- Time.
-time-is : (f : List ℕ) (v : ℕ) → time_of f ≡ some v → (0 ≤ v) × (v ≤ 8639999)
+time-is : (f : List ℕ) (v : ℕ) → time_of f ≡ Some v → (0 ≤ v) × (v ≤ 8639999)
 unfolding is_time
 time-is f v e =
     let t = time-text f v e in
@@ -79,7 +79,7 @@ time-is f v e =
 clock-nine : (v : ℕ) → length (clock_text v) ≡ 9
 clock-nine v = simp (length-append, length-fixed) refl
 
-time-long : (f : List ℕ) (v : ℕ) → time_of f ≡ some v → length (clock_text v) ≤ length f
+time-long : (f : List ℕ) (v : ℕ) → time_of f ≡ Some v → length (clock_text v) ≤ length f
 time-long f v e =
     let t = time-text f v e in
     let l : length f ≡ 9 = rw t.text (simp (length-append, length-fixed) refl) in

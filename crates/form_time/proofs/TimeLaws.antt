@@ -2,7 +2,7 @@
 use Prim.Native.Nat.{◌*◌, ◌+◌, ◌<◌, ◌≤◌, ℕ}
 use mathlib.Core.Bool.{◌&&◌, true}
 use mathlib.Core.List.{◌++◌, ◌∷◌, append-nil, List}
-use mathlib.Core.Option.{bind, none, Option, some}
+use Rattle.std.specs.Prelude.{None, Option, Some}
 use mathlib.Core.Path.{◌∙◌, ◌≡◌, ap, refl, sym}
 use native.Mathlib.Omega.{arith}
 use lib.Dec.{eqb, leb, lit≤}
@@ -23,25 +23,25 @@ record Parts (hours minutes seconds hundredths : Option ℕ) (v : ℕ) : Type 0 
   m : ℕ
   s : ℕ
   c : ℕ
-  is-h : hours ≡ some h
-  is_m : minutes ≡ some m
-  is-s : seconds ≡ some s
-  is_c : hundredths ≡ some c
+  is-h : hours ≡ Some h
+  is_m : minutes ≡ Some m
+  is-s : seconds ≡ Some s
+  is_c : hundredths ≡ Some c
   day : is_time h m s ≡ true
   sum : h * 360000 + m * 6000 + s * 100 + c ≡ v
 
-parts : (oh om os oc : Option ℕ) (v : ℕ) → clock_of oh om os oc ≡ some v → Parts oh om os oc v
-unfolding clock_of bind
-parts none om os oc v e = nothing v e
-parts (some h) none os oc v e = nothing v e
-parts (some h) (some m) none oc v e = nothing v e
-parts (some h) (some m) (some s) none v e = nothing v e
-parts (some h) (some m) (some s) (some c) v e =
-    let t = through _ (some (h * 360000 + m * 6000 + s * 100 + c)) v e in
-    let q : some (h * 360000 + m * 6000 + s * 100 + c) ≡ some v = t.1 in
+parts : (oh om os oc : Option ℕ) (v : ℕ) → clock_of oh om os oc ≡ Some v → Parts oh om os oc v
+unfolding clock_of
+parts None om os oc v e = nothing v e
+parts (Some h) None os oc v e = nothing v e
+parts (Some h) (Some m) None oc v e = nothing v e
+parts (Some h) (Some m) (Some s) None v e = nothing v e
+parts (Some h) (Some m) (Some s) (Some c) v e =
+    let t = through _ (Some (h * 360000 + m * 6000 + s * 100 + c)) v e in
+    let q : Some (h * 360000 + m * 6000 + s * 100 + c) ≡ Some v = t.1 in
     record { h = h; m = m; s = s; c = c; is-h = refl; is_m = refl; is-s = refl; is_c = refl; day = t.0; sum = cc }
 
-clock-of : (f : List ℕ) (v : ℕ) → time_of f ≡ some v
+clock-of : (f : List ℕ) (v : ℕ) → time_of f ≡ Some v
     → (length f ≡ 9) × ((get_or f 6 0 ≡ 46) × Parts (pair_at 0 f) (pair_at 2 f) (pair_at 4 f) (pair_at 7 f) v)
 unfolding time_of
 clock-of f v e =
@@ -57,11 +57,11 @@ in-day h m s e =
     (leb-true h 23 (and_left _ _ e), (leb-true m 59 (and_left _ _ r), leb-true s 59 (and_right (leb m 59) _ r)))
 
 -- A time that was read is below one day.
-pub time-lt : (f : List ℕ) (v : ℕ) → time_of f ≡ some v → v < 8640000
+pub time-lt : (f : List ℕ) (v : ℕ) → time_of f ≡ Some v → v < 8640000
 time-lt f v e =
     let p = (clock-of f v e).1.1 in
     let r = in-day p.h p.m p.s p.day in
-    let k : p.c < 100 = pair_lt 7 f (some p.c) (sym p.is_c) in
+    let k : p.c < 100 = pair_lt 7 f (Some p.c) (sym p.is_c) in
     omega (arith, p.sum)
 
 -- The text of a time: its parts in two digits each, with a point before the last.
@@ -76,7 +76,7 @@ pub record TimeText (f : List ℕ) (v : ℕ) : Type 0 where
   pub value : v ≡ hours * 360000 + minutes * 6000 + seconds * 100 + hundredths
 
 -- Bytes that are read as a time are the text of it.
-pub time-text : (f : List ℕ) (v : ℕ) → time_of f ≡ some v → TimeText f v
+pub time-text : (f : List ℕ) (v : ℕ) → time_of f ≡ Some v → TimeText f v
 time-text f v e =
     let t = clock-of f v e in
     let p = t.1.1 in
@@ -88,7 +88,7 @@ time-text f v e =
       seconds = p.s;
       hundredths = p.c;
       of-day = p.day;
-      below = pair_lt 7 f (some p.c) (sym p.is_c);
+      below = pair_lt 7 f (Some p.c) (sym p.is_c);
       text =
           pair-cut 0 f p.h p.is-h
           ∙ ap (λ (l : List ℕ). print_fixed 2 p.h ++ l) (pair-cut 2 f p.m p.is_m
@@ -108,28 +108,28 @@ module _ (h m s c : ℕ) where
   unfolding print_fixed
   shape = refl
 
-  at-0 : h < 100 → pair_at 0 bytes ≡ some h
+  at-0 : h < 100 → pair_at 0 bytes ≡ Some h
   unfolding pair_at print_fixed
   at-0 k = fixed-rt 2 h (lit≤ tt) k
 
-  at-2 : m < 100 → pair_at 2 bytes ≡ some m
+  at-2 : m < 100 → pair_at 2 bytes ≡ Some m
   unfolding pair_at print_fixed
   at-2 k = fixed-rt 2 m (lit≤ tt) k
 
-  at-4 : s < 100 → pair_at 4 bytes ≡ some s
+  at-4 : s < 100 → pair_at 4 bytes ≡ Some s
   unfolding pair_at print_fixed
   at-4 k = fixed-rt 2 s (lit≤ tt) k
 
-  at_7 : c < 100 → pair_at 7 bytes ≡ some c
+  at_7 : c < 100 → pair_at 7 bytes ≡ Some c
   unfolding pair_at print_fixed
   at_7 k = fixed-rt 2 c (lit≤ tt) k
 
-  read : is_time h m s ≡ true → c < 100 → time_of bytes ≡ some (h * 360000 + m * 6000 + s * 100 + c)
-  unfolding time_of clock_of bind
+  read : is_time h m s ≡ true → c < 100 → time_of bytes ≡ Some (h * 360000 + m * 6000 + s * 100 + c)
+  unfolding time_of clock_of
   read e k =
       let r = in-day h m s e in
       rw (shape, at-0 (omega (arith, r.0)), at-2 (omega (arith, r.1.0)), at-4 (omega (arith, r.1.1)), at_7 k, e)
 
 -- The text of a time is read as that time.
-pub text-time : (f : List ℕ) (v : ℕ) → TimeText f v → time_of f ≡ some v
+pub text-time : (f : List ℕ) (v : ℕ) → TimeText f v → time_of f ≡ Some v
 text-time f v t = rw (t.text, t.value) (read t.hours t.minutes t.seconds t.hundredths t.of-day t.below)

@@ -1,6 +1,7 @@
 -- Time `hhmmss.ss`, hours 00 to 23, minutes and seconds 00 to 59, two fraction digits; may be empty. Held in hundredths of a second.
 use Rattle.std.specs.Prelude.{◌%◌, ◌*◌, ◌+◌, ◌/◌, ℕ, ◌&&◌, Bool, cond, ◌++◌, ◌∷◌, List, eqb, leb, get_or, length}
-use Rattle.std.proofs.Math.Option.{bind, none, Option, some}
+use Rattle.std.specs.Prelude.{None, Option, Some}
+use Rattle.digits.specs.Bind.{bind}
 use Rattle.digits.specs.Decimal.{print_fixed}
 use Rattle.digits.specs.Pairs.{pair_at}
 use Rattle.form.specs.Forms.{single}
@@ -21,17 +22,16 @@ is_time h m s = leb h 23 && (leb m 59 && leb s 59)
 
 -- The parts of a time in hundredths of a second.
 unfoldable pub clock_of : Option ℕ → Option ℕ → Option ℕ → Option ℕ → Option ℕ
-unfolding bind
 clock_of hours minutes seconds hundredths =
     bind hours λ h. bind minutes λ m. bind seconds λ s. bind hundredths λ c.
-    cond (is_time h m s) (some (h * 360000 + m * 6000 + s * 100 + c)) none
+    cond (is_time h m s) (Some (h * 360000 + m * 6000 + s * 100 + c)) None
 
 -- Nine bytes, the seventh of them the point.
 unfoldable pub time_of : List ℕ → Option ℕ
 time_of f =
     cond (eqb (length f) 9 && eqb (get_or f 6 0) 46)
     (clock_of (pair_at 0 f) (pair_at 2 f) (pair_at 4 f) (pair_at 7 f))
-    none
+    None
 
 -- A time in hundredths of a second, written so.
 abbrev pub clock_text : ℕ → List ℕ

@@ -2,8 +2,10 @@
 ghost use Rattle.std.specs.Prelude.{◌%◌, ◌/◌, [], ◌++◌, ◌∷◌};
 ghost use Rattle.digits.specs.Decimal.{print_fixed};
 ghost use Rattle.put.specs.Wrote.{held, Puts, PutsFields};
-ghost use Rattle.form.specs.Values.{if_there};
+ghost use Rattle.form.specs.Values.{maybe_text};
 ghost use Rattle.form_time.specs.Time.{clock_text};
+
+use form::sent::Sent;
 
 // `56.00`: seconds and hundredths of a second.
 fn put_seconds(out: &mut [u8], at: usize, v: u32) -> usize
@@ -24,12 +26,13 @@ fn put_clock(out: &mut [u8], at: usize, v: u32) -> usize
 }
 
 // `123456.00`: a time in hundredths of a second.
-pub fn time(out: &mut [u8], at: usize, there: bool, v: u32) -> usize
-    ensures { PutsFields (held at out.old) (if_there there (clock_text v) ∷ []) (held result out.new) }
+pub fn time<T: Sent>(out: &mut [u8], at: usize, v: T) -> usize
+    ensures { PutsFields (held at out.old) (maybe_text clock_text (T.sent v) ∷ []) (held result out.new) }
 {
+    let m = v.sent();
     let a = put::put(out, at, 44);
-    if there {
-        return put_clock(out, a, v);
+    if m.there {
+        return put_clock(out, a, m.value);
     }
     a
 }

@@ -1,6 +1,8 @@
 // The line around a body: `$`, the body, `*`, the two digits of its XOR, CR, LF; and the refusals of a writer.
 #![tactic(auto)]
 
+pub mod record;
+
 ghost use Rattle.std.specs.Prelude.{◌%◌, ◌/◌, [], ◌++◌, ◌∷◌, ◌≡◌, take};
 ghost use Rattle.digits.specs.Hex.{hex_of};
 ghost use Rattle.put.specs.Wrote.{held, Puts};
@@ -12,7 +14,7 @@ use address::Talker;
 
 // What a writer answers: the length of the line that it wrote; or the number of its refusal with line and
 // field, and then length 0.
-#[derive(Clone, Copy)]
+#[derive(Clone, Copy, PartialEq, Eq, Debug)]
 pub struct Written {
     pub no: u8,
     pub line: usize,
@@ -76,13 +78,7 @@ fn put_talker(out: &mut [u8], t: Talker) -> usize
 pub fn xor_of(s: &[u8]) -> u8
     ensures { result ≡ xor_of s.now }
 {
-    let mut xor: u8 = 0;
-    let mut i: usize = 0;
-    while i < s.len() {
-        xor = xor ^ s[i];
-        i += 1;
-    }
-    xor
+    s.iter().fold(0, |xor, b| xor ^ *b)
 }
 
 // Puts `*`, the two digits of `x`, CR and LF.
@@ -109,10 +105,7 @@ fn seal(out: &mut [u8], body: &[u8]) -> usize
 fn front(s: &[u8], n: usize) -> &[u8]
     ensures { result.now ≡ take n s.now }
 {
-    if n < s.len() {
-        return &s[0..n];
-    }
-    s
+    &s[..n.min(s.len())]
 }
 
 // Writes the line of a body into `out` and answers its length; or hands back the record's fault, or refuses

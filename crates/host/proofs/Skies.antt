@@ -12,8 +12,7 @@ use Rattle.address.specs.declared.Talker.{Talker}
 use Rattle.address.specs.declared.Talker.TheVariants.{Gn}
 use Rattle.kind_gsv.specs.Blank.{blank_entry}
 use Rattle.sky.specs.declared.Sky.{Sky}
-use Rattle.sky.specs.declared.Whose.{Whose}
-use Rattle.sky.specs.declared.Whose.TheVariants.{Nobody, Of}
+use Rattle.std.specs.Prelude.{None, Option, Some}
 use Rattle.sky.specs.Group.{Answer, whole, refused}
 use Rattle.sky.specs.Sky.{sky_of}
 use Rattle.numbers.specs.Numbers.{laid}
@@ -29,27 +28,27 @@ few a s e h = rw e (go a (sym (ap (λ (s : Sky). length s.table.entries) e) ∙ 
     go (refused n k f) h = omega arith
 
 -- What a whole sky and nobody's differ in.
-abbrev count : Whose → ℕ
-count Nobody = 0
-count (Of t) = 1
+abbrev count : Option Talker → ℕ
+count None = 0
+count (Some t) = 1
 
-abbrev who : Whose → Talker
-who Nobody = Gn
-who (Of t) = t
+abbrev who : Option Talker → Talker
+who None = Gn
+who (Some t) = t
 
 -- The four parts that reading a group hands over.
 abbrev Hands : Answer → List ℤ → ℕ → Sky → List ℤ → Type 0
 Hands a out n s left =
     (n ≡ (handed a out).no) × ((s.line ≡ (handed a out).line) × ((s.field ≡ (handed a out).field) × (left ≡ (handed a out).numbers)))
 
-pub nobody : (a : Answer) (s : Sky) (out : List ℤ) → s ≡ sky_of a → s.talker ≡ Nobody → Hands a out s.no s out
+pub nobody : (a : Answer) (s : Sky) (out : List ℤ) → s ≡ sky_of a → s.talker ≡ None → Hands a out s.no s out
 nobody (whole t es) s out e h =
     let z : ◌≡◌ {A = ℕ} 1 0 = ap count (sym (ap (λ (s : Sky). s.talker) e) ∙ h) in
     let w : ⊥ = omega (arith, z) in
     absurd w
 nobody (refused n k f) s out e h = (ap (λ (s : Sky). s.no) e, (ap (λ (s : Sky). s.line) e, (ap (λ (s : Sky). s.field) e, refl)))
 
-pub somebody : (a : Answer) (s : Sky) (t : Talker) (out left : List ℤ) → s ≡ sky_of a → s.talker ≡ Of t
+pub somebody : (a : Answer) (s : Sky) (t : Talker) (out left : List ℤ) → s ≡ sky_of a → s.talker ≡ Some t
     → left ≡ laid (sky_numbers t s.table) out → {n : ℕ} → n ≡ cond (ltb (length out) 254) 8 0 → Hands a out n s left
 somebody (refused n k f) s t out left e h l q =
     let z : ◌≡◌ {A = ℕ} 0 1 = ap count (sym (ap (λ (s : Sky). s.talker) e) ∙ h) in

@@ -107,8 +107,8 @@ pub fn castanwel_counts(
     ensures field_after { field.new ≡ (counts_at settings.now).field }
 {
     let counts = counts(settings);
-    *gps = answers::kept_short(counts.no, counts.gps, *gps);
-    *glonass = answers::kept_short(counts.no, counts.glonass, *glonass);
+    *gps = answers::kept(counts.no, counts.gps, *gps);
+    *glonass = answers::kept(counts.no, counts.glonass, *glonass);
     *line = counts.line;
     *field = counts.field;
     counts.no

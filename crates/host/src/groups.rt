@@ -6,7 +6,6 @@ ghost use Rattle.host.specs.Group.{group_put, handed};
 
 use crate::answers;
 use frame::Written;
-use sky::Whose;
 
 // Reads the lines in `s` as a group, and returns the number of its refusal, 0 where it is a whole sky. Then its
 // 254 numbers stand at the start of `numbers`; 8 where that is too short. `line` and `field` are set to those of the
@@ -23,14 +22,12 @@ pub fn castanwel_read_group(
     ensures numbers_after { numbers.new ≡ (handed (group_of s.now) numbers.old).numbers }
 {
     let sky = sky_read::read(s);
-    let whose = sky.talker;
-    let table = sky.table;
     *line = sky.line;
     *field = sky.field;
-    let Whose::Of(t) = whose else {
+    let Some(t) = sky.talker else {
         return sky.no;
     };
-    if sky_numbers::lay(numbers, t, table) {
+    if sky_numbers::lay(numbers, t, sky.table) {
         return 0;
     }
     8

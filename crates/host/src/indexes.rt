@@ -108,7 +108,7 @@ pub fn castanwel_index_find(
     let found = index::reading::find(index, number);
     *line = found.line;
     *field = found.field;
-    *offset = answers::kept_wide(found.no, found.offset, *offset);
-    *size = answers::kept_wide(found.no, found.length, *size);
+    *offset = answers::kept(found.no, found.offset, *offset);
+    *size = answers::kept(found.no, found.length, *size);
     found.no
 }

@@ -25,7 +25,7 @@ pub fn castanwel_read(
     ensures numbers_after { numbers.new ≡ laid_for (read_line line.now) numbers.old }
 {
     let told = sentence::read(line, numbers);
-    *kind = answers::kept_short(told.no, told.kind, *kind);
+    *kind = answers::kept(told.no, told.kind, *kind);
     *at_line = answers::single_line(told.no);
     *field = told.field;
     told.no

@@ -51,10 +51,7 @@ pub fn fits(last: Entry, e: Entry) -> bool
 fn less(a: u64, b: u64) -> u64
     ensures { result ≡ a - b }
 {
-    if b <= a {
-        return a - b;
-    }
-    0
+    a.saturating_sub(b)
 }
 
 // Puts three numbers of one byte each.
@@ -62,13 +59,11 @@ fn put_three(out: &mut [u8], at: usize, gap: u64, skip: u64, length: u64) -> usi
     requires { (gap < 128) × ((skip < 128) × (length < 128)) }
     ensures { Puts (held at out.old) (gap ∷ (skip ∷ (length ∷ []))) (held result out.new) }
 {
-    if 3 <= out.len() {
-        if at <= out.len() - 3 {
-            out[at] = gap as u8;
-            out[at + 1] = skip as u8;
-            out[at + 2] = length as u8;
-            return at + 3;
-        }
+    if 3 <= out.len() && at <= out.len() - 3 {
+        out[at] = gap as u8;
+        out[at + 1] = skip as u8;
+        out[at + 2] = length as u8;
+        return at + 3;
     }
     let a0 = put::put(out, at, gap as u8);
     let a1 = put::put(out, a0, skip as u8);
@@ -182,10 +177,7 @@ fn longer(s: &[u8], at: usize, last: Entry) -> Next
 fn is_near(s: &[u8], at: usize) -> bool
     ensures { result ≡ Bool.true → Near s.now at }
 {
-    if s.len() < 3 {
-        return false;
-    }
-    if s.len() - 3 < at {
+    if s.len() < 3 || s.len() - 3 < at {
         return false;
     }
     (s[at] < 128) & ((s[at + 1] < 128) & (s[at + 2] < 128))

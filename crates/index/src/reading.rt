@@ -146,7 +146,8 @@ struct Place {
     last: Entry,
 }
 
-// Goes on over entries of three bytes, up to the one wanted.
+// Goes on over entries of three bytes, up to the one wanted. The place and what was read stand in locals: through a struct this took
+// four times as long (docs/DECISIONS.md), and a `for` does not say how far one goes on.
 fn pass(s: &[u8], from: Place, wanted: u64) -> Place
     requires { Starts (length s.now) from }
     ensures { Passes s.now wanted from result }
@@ -172,7 +173,8 @@ fn pass(s: &[u8], from: Place, wanted: u64) -> Place
     Place { at, count, last }
 }
 
-// Goes over the index in `s`, and finds the exhibit with a number.
+// Goes over the index in `s`, and finds the exhibit with a number. Each entry says where the next one stands, so a `for` has nothing
+// to count.
 fn walk(s: &[u8], number: u64) -> Walked
     ensures { Walks s.now number result.scanned result.best }
 {
@@ -234,7 +236,7 @@ struct Laid {
     place: usize,
 }
 
-// Lays the numbers of the entries of three bytes from a place on.
+// Lays the numbers of the entries of three bytes from a place on, in locals as `pass` does.
 fn lay(s: &[u8], out: &mut [u64], from: Laid) -> Laid
     requires { Lays s.now out.old from }
     ensures { LaysOn s.now out.old from out.new result }
@@ -279,7 +281,7 @@ fn lay_one(out: &mut [u64], place: usize, e: Entry, at: usize) -> Laid
     }
 }
 
-// Lays the numbers of all entries of an index at the start of `out`.
+// Lays the numbers of all entries of an index at the start of `out`; each entry says where the next one stands.
 fn lay_all(s: &[u8], out: &mut [u64])
     requires { Lays s.now out.old (laid_at 0 0 0 0) }
     ensures { out.new ≡ laid_for (read_index s.now) out.old }

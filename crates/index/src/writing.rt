@@ -88,7 +88,7 @@ fn is_small(entries: &[u64], i: usize, number: u64, end: u64) -> bool
     (n <= 4294967295) & (offset + bytes <= 4294967295)
 }
 
-// Goes on over entries of three bytes that fit.
+// Goes on over entries of three bytes that fit, in locals as `reading::pass` does.
 fn plan(entries: &[u64], from: Reached) -> Reached
     requires { Planning entries.now from }
     ensures planning { Planning entries.now result }
@@ -110,7 +110,7 @@ fn plan(entries: &[u64], from: Reached) -> Reached
     }
 }
 
-// What writing the entries comes to in so much room.
+// What writing the entries comes to in so much room. `plan` answers where to go on, so a `for` has nothing to count.
 fn planned(entries: &[u64], room: usize) -> Written
     ensures { result ≡ written_index entries.now room }
 {
@@ -158,7 +158,7 @@ fn is_close(entries: &[u64], i: usize, number: u64, end: u64) -> bool
     (entries[i] - number < 128) & (entries[i + 1] - end < 128)
 }
 
-// Puts the bytes of the entries from a place on, as long as each takes three.
+// Puts the bytes of the entries from a place on, as long as each takes three, in locals as `reading::pass` does.
 fn put_close(out: &mut [u8], entries: &[u64], from: Reached) -> Reached
     requires { Putting entries.now out.old from }
     ensures { PutsOn entries.now out.old from out.new result }
@@ -187,7 +187,7 @@ fn put_close(out: &mut [u8], entries: &[u64], from: Reached) -> Reached
     }
 }
 
-// Puts the bytes of all entries at the start of `out`.
+// Puts the bytes of all entries at the start of `out`; `put_close` answers where to go on.
 fn put_all(out: &mut [u8], entries: &[u64]) -> usize
     requires { Putting entries.now out.old (reached_at 0 0 0 0) }
     ensures { Puts (held 0 out.old) (index_bytes (entries_of entries.now)) (held result out.new) }

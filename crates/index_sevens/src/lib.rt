@@ -21,15 +21,13 @@ pub fn size(v: u64) -> usize
     ensures { result ≡ length (sevens v) }
 {
     let mut left = v;
-    let mut n: usize = 0;
-    while n < 4 {
+    for n in 0..4 {
         if left < 128 {
             return n + 1;
         }
-        left = left / 128;
-        n += 1;
+        left /= 128;
     }
-    n + 1
+    5
 }
 
 // Puts the number `v`, as each put does: 300 as AC 02.
@@ -38,22 +36,14 @@ pub fn put(out: &mut [u8], at: usize, v: u64) -> usize
 {
     let mut place = at;
     let mut left = v;
-    let mut n: usize = 0;
-    while n < 5 {
+    for _n in 0..5usize {
         if left < 128 {
             return put::put(out, place, left as u8);
         }
         place = put::put(out, place, 128 + (left % 128) as u8);
-        left = left / 128;
-        n += 1;
+        left /= 128;
     }
     place
-}
-
-fn wide(b: u8) -> u64
-    ensures { result ≡ b }
-{
-    b as u64
 }
 
 // Takes the groups behind the first, which is `low`, from `at` on.
@@ -64,23 +54,21 @@ fn take_more(s: &[u8], at: usize, low: u64) -> Taken
     let mut place = at;
     let mut sum = low;
     let mut unit: u64 = 128;
-    let mut n: usize = 1;
-    while n < 5 {
+    for _n in 1..5usize {
         if s.len() <= place {
             return Taken::Short;
         }
-        let b = wide(s[place]);
+        let b = u64::from(s[place]);
         if b < 128 {
             let v = sum + unit * b;
-            if (b == 0) | (4294967295 < v) {
+            if b == 0 || 4294967295 < v {
                 return Taken::Bad;
             }
             return Taken::Value(v, place + 1);
         }
         sum += unit * (b - 128);
-        unit = unit * 128;
+        unit *= 128;
         place += 1;
-        n += 1;
     }
     Taken::Bad
 }
@@ -92,7 +80,7 @@ pub fn take(s: &[u8], at: usize) -> Taken
     if s.len() <= at {
         return Taken::Short;
     }
-    let b = wide(s[at]);
+    let b = u64::from(s[at]);
     if b < 128 {
         return Taken::Value(b, at + 1);
     }

@@ -2,18 +2,20 @@
 #![tactic(auto)]
 
 ghost use Rattle.std.specs.Prelude.{◌≡◌};
-ghost use Rattle.put.specs.Wrote.{held, Puts, PutsFields};
-ghost use Rattle.fields.specs.Places.{fields_by};
+ghost use Rattle.fields.specs.Parts.{parts_of};
 ghost use Rattle.frame.specs.Written.{fault_at, Writes};
 ghost use Rattle.numbers.specs.Told.{gives, Tells};
 ghost use Rattle.kind_gga.specs.Row.{gga_at, gga_body, gga_fields, gga_from, gga_numbers, gga_told, gga_wrong};
 
 use address::Talker;
+use fields::Fields;
 use form::Maybe;
+use form::from_numbers::FromNumbers;
 use form::got::{Got, GotInt};
 use form_number::{Number, Signed};
 use form_position::{Place, Position};
 use frame::Written;
+use frame::record::Record;
 use numbers::Told;
 
 #[derive(Clone, Copy)]
@@ -63,15 +65,15 @@ pub fn at(n: &[i64]) -> Gga
     ensures { result ≡ gga_at n.now }
 {
     Gga {
-        time: form::from_numbers::maybe(n, 1),
-        place: form_position::from_numbers::place(n, 3),
+        time: Maybe::at(n, 1),
+        place: Place::at(n, 3),
         quality: numbers::whole_at(n, 6),
-        satellites: form::from_numbers::maybe(n, 7),
-        hdop: form_number::from_numbers::number(n, 9),
-        altitude: form_number::from_numbers::signed(n, 11),
-        geoid: form_number::from_numbers::signed(n, 13),
-        age: form_number::from_numbers::number(n, 15),
-        station: form::from_numbers::maybe(n, 17),
+        satellites: Maybe::at(n, 7),
+        hdop: Number::at(n, 9),
+        altitude: Signed::at(n, 11),
+        geoid: Signed::at(n, 13),
+        age: Number::at(n, 15),
+        station: Maybe::at(n, 17),
     }
 }
 
@@ -112,41 +114,40 @@ fn gga_from(
         out,
         t,
         Gga {
-            time: form::keep::kept(time),
-            place: form_position::keep::placed(place),
+            time: time.into(),
+            place: place.into(),
             quality: quality.value,
-            satellites: form::keep::kept(satellites),
-            hdop: form_number::keep::number(hdop),
-            altitude: form_number::keep::signed(altitude),
-            geoid: form_number::keep::signed(geoid),
-            age: form_number::keep::number(age),
-            station: form::keep::kept(station),
+            satellites: satellites.into(),
+            hdop: hdop.into(),
+            altitude: altitude.into(),
+            geoid: geoid.into(),
+            age: age.into(),
+            station: station.into(),
         },
     )
 }
 
-// Reads the fields of a body `s`, `n` of them after the address, by their ends `p`, and lays the numbers of the record at
-// the start of `out`. Refused: 4 where there are not so many fields as the kind has, 5 at the first wrong field, 8 where
-// `out` is shorter than the record; then `out` is left.
+// Reads the fields of a body, and lays the numbers of the record at the start of `out`. Refused: 4 where there are not so many
+// fields as the kind has, 5 at the first wrong field, 8 where `out` is shorter than the record; then `out` is left.
 //
 //     $GPGGA,075140.00,5550.6111,N,03732.2534,E,1,05,1.2,188.8,M,14.4,M,,*62
-pub fn read(out: &mut [i64], t: Talker, n: usize, s: &[u8], p: &[usize]) -> Told
-    ensures { Tells (gga_told out.old t n (fields_by p.now s.now)) result out.new }
+pub fn read(out: &mut [i64], t: Talker, f: Fields) -> Told
+    ensures { Tells (gga_told out.old t f.entry.count (parts_of f.entry)) result out.new }
 {
-    if n != 14 {
+    if f.count != 14 {
         return numbers::refuse(4, 0);
     }
-    let time = form_time::read::time_in(s, p, 1);
-    let place = form_position::read::position_in(s, p, 2, 3, 4, 5);
-    let quality = form_number::fixed::exact_in(s, p, 6, 1, 0, 8);
-    let satellites = form_number::fixed::fixed_in(s, p, 7, 2, 0, 99);
-    let hdop = form_number::read::number_in(s, p, 8);
-    let altitude = form_number::read::height_in(s, p, 9);
-    let m10 = form::unit::unit_in(s, p, 10, altitude.there, b'M');
-    let geoid = form_number::read::height_in(s, p, 11);
-    let m12 = form::unit::unit_in(s, p, 12, geoid.there, b'M');
-    let age = form_number::read::number_in(s, p, 13);
-    let station = form_number::fixed::fixed_in(s, p, 14, 4, 0, 1023);
+    let time = form_time::read::time(f.at(1));
+    let place = form_position::read::position(f.at(2), f.at(3), f.at(4), f.at(5));
+    let quality = form_number::fixed::exact(f.at(6), 1, 0, 8);
+    let satellites = form_number::fixed::fixed(f.at(7), 2, 0, 99);
+    let hdop = form_number::read::number(f.at(8));
+    let altitude = form_number::read::height(f.at(9));
+    let m10 = form::unit::unit(f.at(10), altitude.there, b'M');
+    let geoid = form_number::read::height(f.at(11));
+    let m12 = form::unit::unit(f.at(12), geoid.there, b'M');
+    let age = form_number::read::number(f.at(13));
+    let station = form_number::fixed::fixed(f.at(14), 4, 0, 1023);
     gga_from(
         out, t, time, place, quality, satellites, hdop, altitude, m10, geoid, m12, age, station,
     )
@@ -156,16 +157,8 @@ pub fn read(out: &mut [i64], t: Talker, n: usize, s: &[u8], p: &[usize]) -> Told
 fn wrong(r: Gga) -> usize
     ensures { result ≡ gga_wrong r }
 {
-    let w14 = form::keep::near(
-        13,
-        form::range::maybe(r.station.there, r.station.value, 0, 1023),
-        0,
-    );
-    let w13 = form::keep::near(
-        12,
-        form::range::maybe(r.age.there, r.age.value, 0, 999999999),
-        w14,
-    );
+    let w14 = form::keep::near(13, form::range::maybe(r.station, 0, 1023), 0);
+    let w13 = form::keep::near(12, form::range::maybe(r.age, 0, 999999999), w14);
     let w11 = form::keep::near(
         10,
         form::range::signed(r.geoid.there, r.geoid.value, 999999999),
@@ -176,46 +169,35 @@ fn wrong(r: Gga) -> usize
         form::range::signed(r.altitude.there, r.altitude.value, 999999999),
         w11,
     );
-    let w8 = form::keep::near(
-        7,
-        form::range::maybe(r.hdop.there, r.hdop.value, 0, 999999999),
-        w9,
-    );
-    let w7 = form::keep::near(
-        6,
-        form::range::maybe(r.satellites.there, r.satellites.value, 0, 99),
-        w8,
-    );
+    let w8 = form::keep::near(7, form::range::maybe(r.hdop, 0, 999999999), w9);
+    let w7 = form::keep::near(6, form::range::maybe(r.satellites, 0, 99), w8);
     let w6 = form::keep::near(5, form::range::within(r.quality, 0, 8), w7);
     let w2 = form::keep::near(1, form_position::range::place(r.place), w6);
-    form::keep::near(
-        0,
-        form::range::maybe(r.time.there, r.time.value, 0, 8639999),
-        w2,
-    )
+    form::keep::near(0, form::range::maybe(r.time, 0, 8639999), w2)
 }
 
-fn put_fields(out: &mut [u8], at: usize, r: Gga) -> usize
-    ensures { PutsFields (held at out.old) (gga_fields r) (held result out.new) }
-{
-    let a0 = form_time::text::time(out, at, r.time.there, r.time.value);
-    let a1 = form_position::text::place(out, a0, r.place);
-    let a2 = form_number::text::one(out, a1, true, r.quality);
-    let a3 = form_number::text::two(out, a2, r.satellites.there, r.satellites.value);
-    let a4 = form_number::text::number(out, a3, r.hdop.there, r.hdop.value);
-    let a5 = form_number::text::height(out, a4, r.altitude.there, r.altitude.value);
-    let a6 = form::text::unit(out, a5, r.altitude.there, b'M');
-    let a7 = form_number::text::height(out, a6, r.geoid.there, r.geoid.value);
-    let a8 = form::text::unit(out, a7, r.geoid.there, b'M');
-    let a9 = form_number::text::number(out, a8, r.age.there, r.age.value);
-    form_number::text::four(out, a9, r.station.there, r.station.value)
-}
+impl Record for Gga {
+    ghost fault = { λ r. fault_at (gga_wrong r) };
 
-fn put_body(out: &mut [u8], t: Talker, r: Gga) -> usize
-    ensures { Puts (held 0 out.old) (gga_body t r) (held result out.new) }
-{
-    let a = frame::put_address(out, t, b"GGA");
-    put_fields(out, a, r)
+    ghost texts = { gga_fields };
+
+    fn fault(self) -> Written {
+        frame::fault(wrong(self))
+    }
+
+    fn put_fields(self, out: &mut [u8], at: usize) -> usize {
+        let a0 = form_time::text::time(out, at, self.time);
+        let a1 = form_position::text::place(out, a0, self.place);
+        let a2 = form_number::text::one(out, a1, self.quality);
+        let a3 = form_number::text::two(out, a2, self.satellites);
+        let a4 = form_number::text::number(out, a3, self.hdop);
+        let a5 = form_number::text::height(out, a4, self.altitude);
+        let a6 = form::text::unit(out, a5, self.altitude.there, b'M');
+        let a7 = form_number::text::height(out, a6, self.geoid);
+        let a8 = form::text::unit(out, a7, self.geoid.there, b'M');
+        let a9 = form_number::text::number(out, a8, self.age);
+        form_number::text::four(out, a9, self.station)
+    }
 }
 
 // Writes the line of a record into `out`, and answers its length. Refused: 5 at the first value outside its
@@ -225,8 +207,5 @@ fn put_body(out: &mut [u8], t: Talker, r: Gga) -> usize
 pub fn write(out: &mut [u8], t: Talker, r: Gga) -> Written
     ensures { Writes (fault_at (gga_wrong r)) (gga_body t r) out.old result out.new }
 {
-    let mut scratch = [0u8; 96];
-    let n = put_body(&mut scratch, t, r);
-    let fault = frame::fault(wrong(r));
-    frame::finish(out, &scratch, n, fault)
+    frame::record::write_standard(out, t, b"GGA", r)
 }

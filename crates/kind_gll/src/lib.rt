@@ -2,17 +2,19 @@
 #![tactic(auto)]
 
 ghost use Rattle.std.specs.Prelude.{◌≡◌};
-ghost use Rattle.put.specs.Wrote.{held, Puts, PutsFields};
-ghost use Rattle.fields.specs.Places.{fields_by};
+ghost use Rattle.fields.specs.Parts.{parts_of};
 ghost use Rattle.frame.specs.Written.{fault_at, Writes};
 ghost use Rattle.numbers.specs.Told.{gives, Tells};
 ghost use Rattle.kind_gll.specs.Row.{gll_at, gll_body, gll_fields, gll_from, gll_numbers, gll_told, gll_wrong};
 
 use address::Talker;
+use fields::Fields;
 use form::Maybe;
+use form::from_numbers::FromNumbers;
 use form::got::Got;
 use form_position::{Place, Position};
 use frame::Written;
+use frame::record::Record;
 use numbers::Told;
 
 #[derive(Clone, Copy)]
@@ -46,8 +48,8 @@ pub fn at(n: &[i64]) -> Gll
     ensures { result ≡ gll_at n.now }
 {
     Gll {
-        place: form_position::from_numbers::place(n, 1),
-        time: form::from_numbers::maybe(n, 4),
+        place: Place::at(n, 1),
+        time: Maybe::at(n, 4),
         status: numbers::whole_at(n, 6),
         mode: numbers::whole_at(n, 7),
     }
@@ -68,29 +70,28 @@ fn gll_from(out: &mut [i64], t: Talker, place: Position, time: Got, status: Got,
         out,
         t,
         Gll {
-            place: form_position::keep::placed(place),
-            time: form::keep::kept(time),
+            place: place.into(),
+            time: time.into(),
             status: status.value,
             mode: mode.value,
         },
     )
 }
 
-// Reads the fields of a body `s`, `n` of them after the address, by their ends `p`, and lays the numbers of the record at
-// the start of `out`. Refused: 4 where there are not so many fields as the kind has, 5 at the first wrong field, 8 where
-// `out` is shorter than the record; then `out` is left.
+// Reads the fields of a body, and lays the numbers of the record at the start of `out`. Refused: 4 where there are not so many
+// fields as the kind has, 5 at the first wrong field, 8 where `out` is shorter than the record; then `out` is left.
 //
 //     $GPGLL,5550.6111,N,03732.2534,E,075140.00,A,A*69
-pub fn read(out: &mut [i64], t: Talker, n: usize, s: &[u8], p: &[usize]) -> Told
-    ensures { Tells (gll_told out.old t n (fields_by p.now s.now)) result out.new }
+pub fn read(out: &mut [i64], t: Talker, f: Fields) -> Told
+    ensures { Tells (gll_told out.old t f.entry.count (parts_of f.entry)) result out.new }
 {
-    if n != 7 {
+    if f.count != 7 {
         return numbers::refuse(4, 0);
     }
-    let place = form_position::read::position_in(s, p, 1, 2, 3, 4);
-    let time = form_time::read::time_in(s, p, 5);
-    let status = form_letter::read::letter_in(s, p, 6, b"AV");
-    let mode = form_letter::read::letter_in(s, p, 7, b"ADEMSN");
+    let place = form_position::read::position(f.at(1), f.at(2), f.at(3), f.at(4));
+    let time = form_time::read::time(f.at(5));
+    let status = form_letter::read::letter(f.at(6), b"AV");
+    let mode = form_letter::read::letter(f.at(7), b"ADEMSN");
     gll_from(out, t, place, time, status, mode)
 }
 
@@ -100,28 +101,25 @@ fn wrong(r: Gll) -> usize
 {
     let w7 = form::keep::near(6, form_letter::range::letter(r.mode, b"ADEMSN"), 0);
     let w6 = form::keep::near(5, form_letter::range::letter(r.status, b"AV"), w7);
-    let w5 = form::keep::near(
-        4,
-        form::range::maybe(r.time.there, r.time.value, 0, 8639999),
-        w6,
-    );
+    let w5 = form::keep::near(4, form::range::maybe(r.time, 0, 8639999), w6);
     form::keep::near(0, form_position::range::place(r.place), w5)
 }
 
-fn put_fields(out: &mut [u8], at: usize, r: Gll) -> usize
-    ensures { PutsFields (held at out.old) (gll_fields r) (held result out.new) }
-{
-    let a0 = form_position::text::place(out, at, r.place);
-    let a1 = form_time::text::time(out, a0, r.time.there, r.time.value);
-    let a2 = form_letter::text::letter(out, a1, r.status);
-    form_letter::text::letter(out, a2, r.mode)
-}
+impl Record for Gll {
+    ghost fault = { λ r. fault_at (gll_wrong r) };
 
-fn put_body(out: &mut [u8], t: Talker, r: Gll) -> usize
-    ensures { Puts (held 0 out.old) (gll_body t r) (held result out.new) }
-{
-    let a = frame::put_address(out, t, b"GLL");
-    put_fields(out, a, r)
+    ghost texts = { gll_fields };
+
+    fn fault(self) -> Written {
+        frame::fault(wrong(self))
+    }
+
+    fn put_fields(self, out: &mut [u8], at: usize) -> usize {
+        let a0 = form_position::text::place(out, at, self.place);
+        let a1 = form_time::text::time(out, a0, self.time);
+        let a2 = form_letter::text::letter(out, a1, self.status);
+        form_letter::text::letter(out, a2, self.mode)
+    }
 }
 
 // Writes the line of a record into `out`, and answers its length. Refused: 5 at the first value outside its
@@ -131,8 +129,5 @@ fn put_body(out: &mut [u8], t: Talker, r: Gll) -> usize
 pub fn write(out: &mut [u8], t: Talker, r: Gll) -> Written
     ensures { Writes (fault_at (gll_wrong r)) (gll_body t r) out.old result out.new }
 {
-    let mut scratch = [0u8; 96];
-    let n = put_body(&mut scratch, t, r);
-    let fault = frame::fault(wrong(r));
-    frame::finish(out, &scratch, n, fault)
+    frame::record::write_standard(out, t, b"GLL", r)
 }

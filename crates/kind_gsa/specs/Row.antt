@@ -1,11 +1,12 @@
 -- GSA (17): M or A, one digit 1-3, twelve satellites (2 digits 01-99 or empty), PDOP, HDOP, VDOP. The first two are never empty.
 use Rattle.std.specs.Prelude.{ℕ, [], ◌∷◌, List, eqb, get_or, replicate, ℤ}
+use Rattle.digits.specs.Decimal.{print_fixed}
 use Rattle.digits.specs.Pick.{pick}
 use Rattle.address.specs.declared.Talker.{Talker}
 use Rattle.frame.specs.Body.{standard_body}
 use Rattle.form.specs.Kind.{fault_by, fields_for, read_by}
 use Rattle.form.specs.Row.{◌▷◌, Form, one, Row}
-use Rattle.form.specs.Values.{no_maybe}
+use Rattle.form.specs.Values.{maybe_text, no_maybe}
 use Rattle.form.specs.Wrong.{near_of}
 use Rattle.form.specs.declared.Maybe.{Maybe}
 use Rattle.form.specs.declared.got.Got.{Got}
@@ -128,12 +129,9 @@ gsa_from out t selection fix active pdop hdop vdop =
     })))
     (refuses out 5 (near_of 0 selection.wrong (near_of 1 fix.wrong active.wrong)))
 
--- The satellite in place k, counted from 0: whether it is wrong, and its field.
-abbrev pub satellite_wrong : Gsa → ℕ → ℕ
-satellite_wrong r k = satellite.fault (satellite_in r.satellites k)
-
-abbrev pub satellite_field : Gsa → ℕ → List ℕ
-satellite_field r k = get_or (satellite.text (satellite_in r.satellites k)) 0 []
+-- The text of a satellite's field.
+abbrev pub satellite_text : Maybe → List ℕ
+satellite_text = maybe_text (print_fixed 2)
 
 -- The first value outside its range, by the number of its field, or 0; the fields; the body.
 unfoldable pub gsa_wrong : Gsa → ℕ

@@ -1,24 +1,26 @@
 // GSA: selection, fix, twelve satellites, PDOP, HDOP and VDOP.
 #![tactic(auto)]
 
-ghost use Rattle.std.specs.Prelude.{[], ◌∷◌, ◌≡◌};
-ghost use Rattle.put.specs.Wrote.{held, Puts, PutsFields};
-ghost use Rattle.fields.specs.Places.{fields_by};
+ghost use Rattle.std.specs.Prelude.{[], ◌∷◌, ◌≡◌, map};
+ghost use Rattle.put.specs.Wrote.{held, PutsFields};
+ghost use Rattle.fields.specs.Parts.{parts_of};
 ghost use Rattle.frame.specs.Written.{fault_at, Writes};
-ghost use Rattle.form.specs.Wrong.{near_of};
 ghost use Rattle.form.specs.Numbers.{maybe_layout};
 ghost use Rattle.numbers.specs.Layout.{list_at, list_numbers};
 ghost use Rattle.numbers.specs.Numbers.{laid};
 ghost use Rattle.numbers.specs.Told.{gives, Tells};
 ghost use Rattle.kind_gsa.specs.Row.{gsa_at, gsa_numbers, gsa_told};
-ghost use Rattle.kind_gsa.specs.Row.{gsa_body, gsa_fields, gsa_from, gsa_wrong, satellite_field, satellite_wrong, twelve_of};
+ghost use Rattle.kind_gsa.specs.Row.{gsa_body, gsa_fields, gsa_from, gsa_wrong, satellite_text, twelve_in, twelve_of};
 ghost use Rattle.kind_gsa.specs.Row.{twelve_row};
 
 use address::Talker;
+use fields::Fields;
 use form::Maybe;
+use form::from_numbers::FromNumbers;
 use form::got::Got;
 use form_number::Number;
 use frame::Written;
+use frame::record::Record;
 use numbers::Told;
 
 #[derive(Clone, Copy)]
@@ -46,10 +48,8 @@ fn lay_twelve(out: &mut [i64], s: [Maybe; 12]) -> bool
     if out.len() < 24 {
         return false;
     }
-    let mut i: usize = 0;
-    while i < 12 {
+    for i in 0..s.len() {
         lay_satellite(&mut out[2 * i..], s[i]);
-        i += 1;
     }
     true
 }
@@ -82,20 +82,14 @@ fn lay(out: &mut [i64], t: Talker, r: Gsa) -> Told
 fn twelve_at(n: &[i64]) -> [Maybe; 12]
     ensures { result ≡ list_at maybe_layout n.now 3 12 }
 {
-    [
-        form::from_numbers::maybe(n, 3),
-        form::from_numbers::maybe(n, 5),
-        form::from_numbers::maybe(n, 7),
-        form::from_numbers::maybe(n, 9),
-        form::from_numbers::maybe(n, 11),
-        form::from_numbers::maybe(n, 13),
-        form::from_numbers::maybe(n, 15),
-        form::from_numbers::maybe(n, 17),
-        form::from_numbers::maybe(n, 19),
-        form::from_numbers::maybe(n, 21),
-        form::from_numbers::maybe(n, 23),
-        form::from_numbers::maybe(n, 25),
-    ]
+    let mut s = [Maybe {
+        there: false,
+        value: 0,
+    }; 12];
+    for i in 0..12 {
+        s[i] = Maybe::at(n, 3 + 2 * i);
+    }
+    s
 }
 
 // The record that numbers say; a number past the end is taken as 0.
@@ -106,9 +100,9 @@ pub fn at(n: &[i64]) -> Gsa
         selection: numbers::whole_at(n, 1),
         fix: numbers::whole_at(n, 2),
         satellites: twelve_at(n),
-        pdop: form_number::from_numbers::number(n, 27),
-        hdop: form_number::from_numbers::number(n, 29),
-        vdop: form_number::from_numbers::number(n, 31),
+        pdop: Number::at(n, 27),
+        hdop: Number::at(n, 29),
+        vdop: Number::at(n, 31),
     }
 }
 
@@ -152,37 +146,37 @@ fn twelve_from(
     Twelve {
         wrong: w3,
         satellites: [
-            form::keep::kept(a1),
-            form::keep::kept(a2),
-            form::keep::kept(a3),
-            form::keep::kept(a4),
-            form::keep::kept(a5),
-            form::keep::kept(a6),
-            form::keep::kept(a7),
-            form::keep::kept(a8),
-            form::keep::kept(a9),
-            form::keep::kept(a10),
-            form::keep::kept(a11),
-            form::keep::kept(a12),
+            a1.into(),
+            a2.into(),
+            a3.into(),
+            a4.into(),
+            a5.into(),
+            a6.into(),
+            a7.into(),
+            a8.into(),
+            a9.into(),
+            a10.into(),
+            a11.into(),
+            a12.into(),
         ],
     }
 }
 
-fn active_in(s: &[u8], p: &[usize], rest: usize) -> Twelve
-    ensures { result ≡ twelve_of (twelve_row.got (fields_by p.now s.now) 2) rest }
+fn active_in(f: Fields, rest: usize) -> Twelve
+    ensures { result ≡ twelve_of (twelve_row.got (parts_of f.entry) 2) rest }
 {
-    let a1 = form_number::fixed::fixed_in(s, p, 3, 2, 1, 99);
-    let a2 = form_number::fixed::fixed_in(s, p, 4, 2, 1, 99);
-    let a3 = form_number::fixed::fixed_in(s, p, 5, 2, 1, 99);
-    let a4 = form_number::fixed::fixed_in(s, p, 6, 2, 1, 99);
-    let a5 = form_number::fixed::fixed_in(s, p, 7, 2, 1, 99);
-    let a6 = form_number::fixed::fixed_in(s, p, 8, 2, 1, 99);
-    let a7 = form_number::fixed::fixed_in(s, p, 9, 2, 1, 99);
-    let a8 = form_number::fixed::fixed_in(s, p, 10, 2, 1, 99);
-    let a9 = form_number::fixed::fixed_in(s, p, 11, 2, 1, 99);
-    let a10 = form_number::fixed::fixed_in(s, p, 12, 2, 1, 99);
-    let a11 = form_number::fixed::fixed_in(s, p, 13, 2, 1, 99);
-    let a12 = form_number::fixed::fixed_in(s, p, 14, 2, 1, 99);
+    let a1 = form_number::fixed::fixed(f.at(3), 2, 1, 99);
+    let a2 = form_number::fixed::fixed(f.at(4), 2, 1, 99);
+    let a3 = form_number::fixed::fixed(f.at(5), 2, 1, 99);
+    let a4 = form_number::fixed::fixed(f.at(6), 2, 1, 99);
+    let a5 = form_number::fixed::fixed(f.at(7), 2, 1, 99);
+    let a6 = form_number::fixed::fixed(f.at(8), 2, 1, 99);
+    let a7 = form_number::fixed::fixed(f.at(9), 2, 1, 99);
+    let a8 = form_number::fixed::fixed(f.at(10), 2, 1, 99);
+    let a9 = form_number::fixed::fixed(f.at(11), 2, 1, 99);
+    let a10 = form_number::fixed::fixed(f.at(12), 2, 1, 99);
+    let a11 = form_number::fixed::fixed(f.at(13), 2, 1, 99);
+    let a12 = form_number::fixed::fixed(f.at(14), 2, 1, 99);
     twelve_from(a1, a2, a3, a4, a5, a6, a7, a8, a9, a10, a11, a12, rest)
 }
 
@@ -212,179 +206,85 @@ fn gsa_from(
             selection: selection.value,
             fix: fix.value,
             satellites,
-            pdop: form_number::keep::number(pdop),
-            hdop: form_number::keep::number(hdop),
-            vdop: form_number::keep::number(vdop),
+            pdop: pdop.into(),
+            hdop: hdop.into(),
+            vdop: vdop.into(),
         },
     )
 }
 
-// Reads the fields of a body `s`, `n` of them after the address, by their ends `p`, and lays the numbers of the record at
-// the start of `out`. Refused: 4 where there are not so many fields as the kind has, 5 at the first wrong field, 8 where
-// `out` is shorter than the record; then `out` is left.
+// Reads the fields of a body, and lays the numbers of the record at the start of `out`. Refused: 4 where there are not so many
+// fields as the kind has, 5 at the first wrong field, 8 where `out` is shorter than the record; then `out` is left.
 //
 //     $GPGSA,A,3,05,12,17,,,,,,,,,,2.1,1.2,1.7*34
-pub fn read(out: &mut [i64], t: Talker, n: usize, s: &[u8], p: &[usize]) -> Told
-    ensures { Tells (gsa_told out.old t n (fields_by p.now s.now)) result out.new }
+pub fn read(out: &mut [i64], t: Talker, f: Fields) -> Told
+    ensures { Tells (gsa_told out.old t f.entry.count (parts_of f.entry)) result out.new }
 {
-    if n != 17 {
+    if f.count != 17 {
         return numbers::refuse(4, 0);
     }
-    let selection = form_letter::read::letter_in(s, p, 1, b"MA");
-    let fix = form_number::fixed::exact_in(s, p, 2, 1, 1, 3);
-    let pdop = form_number::read::number_in(s, p, 15);
-    let hdop = form_number::read::number_in(s, p, 16);
-    let vdop = form_number::read::number_in(s, p, 17);
+    let selection = form_letter::read::letter(f.at(1), b"MA");
+    let fix = form_number::fixed::exact(f.at(2), 1, 1, 3);
+    let pdop = form_number::read::number(f.at(15));
+    let hdop = form_number::read::number(f.at(16));
+    let vdop = form_number::read::number(f.at(17));
     let w17 = form::keep::near(16, vdop.wrong, 0);
     let w16 = form::keep::near(15, hdop.wrong, w17);
     let w15 = form::keep::near(14, pdop.wrong, w16);
-    let active = active_in(s, p, w15);
+    let active = active_in(f, w15);
     gsa_from(out, t, selection, fix, active, pdop, hdop, vdop)
 }
 
-// The first wrong field from a satellite's on: of the first six, and of the last six; `rest` is the first after
-// them.
-fn first_six(r: Gsa, rest: usize) -> usize
-    ensures { result ≡ near_of 2 (satellite_wrong r 0)
-        (near_of 3 (satellite_wrong r 1) (near_of 4 (satellite_wrong r 2)
-        (near_of 5 (satellite_wrong r 3) (near_of 6 (satellite_wrong r 4) (near_of 7 (satellite_wrong r 5) rest))))) }
+// The first wrong field from the satellites on; `rest` is the first after them.
+fn satellites_wrong(s: [Maybe; 12], rest: usize) -> usize
+    ensures { result ≡ twelve_row.fault (twelve_in s) 2 rest }
 {
-    let w5 = form::keep::near(
-        7,
-        form::range::maybe(r.satellites[5].there, r.satellites[5].value, 1, 99),
-        rest,
-    );
-    let w4 = form::keep::near(
-        6,
-        form::range::maybe(r.satellites[4].there, r.satellites[4].value, 1, 99),
-        w5,
-    );
-    let w3 = form::keep::near(
-        5,
-        form::range::maybe(r.satellites[3].there, r.satellites[3].value, 1, 99),
-        w4,
-    );
-    let w2 = form::keep::near(
-        4,
-        form::range::maybe(r.satellites[2].there, r.satellites[2].value, 1, 99),
-        w3,
-    );
-    let w1 = form::keep::near(
-        3,
-        form::range::maybe(r.satellites[1].there, r.satellites[1].value, 1, 99),
-        w2,
-    );
-    form::keep::near(
-        2,
-        form::range::maybe(r.satellites[0].there, r.satellites[0].value, 1, 99),
-        w1,
-    )
-}
-
-fn last_six(r: Gsa, rest: usize) -> usize
-    ensures { result ≡ near_of 8 (satellite_wrong r 6)
-        (near_of 9 (satellite_wrong r 7) (near_of 10 (satellite_wrong r 8)
-        (near_of 11 (satellite_wrong r 9) (near_of 12 (satellite_wrong r 10) (near_of 13 (satellite_wrong r 11) rest))))) }
-{
-    let w11 = form::keep::near(
-        13,
-        form::range::maybe(r.satellites[11].there, r.satellites[11].value, 1, 99),
-        rest,
-    );
-    let w10 = form::keep::near(
-        12,
-        form::range::maybe(r.satellites[10].there, r.satellites[10].value, 1, 99),
-        w11,
-    );
-    let w9 = form::keep::near(
-        11,
-        form::range::maybe(r.satellites[9].there, r.satellites[9].value, 1, 99),
-        w10,
-    );
-    let w8 = form::keep::near(
-        10,
-        form::range::maybe(r.satellites[8].there, r.satellites[8].value, 1, 99),
-        w9,
-    );
-    let w7 = form::keep::near(
-        9,
-        form::range::maybe(r.satellites[7].there, r.satellites[7].value, 1, 99),
-        w8,
-    );
-    form::keep::near(
-        8,
-        form::range::maybe(r.satellites[6].there, r.satellites[6].value, 1, 99),
-        w7,
-    )
+    match s.iter().position(|m| form::range::maybe(*m, 1, 99) != 0) {
+        Some(i) => i + 3,
+        None => rest,
+    }
 }
 
 // The first value outside its range, by the number of its field, or 0.
 fn wrong(r: Gsa) -> usize
     ensures { result ≡ gsa_wrong r }
 {
-    let w17 = form::keep::near(
-        16,
-        form::range::maybe(r.vdop.there, r.vdop.value, 0, 999999999),
-        0,
-    );
-    let w16 = form::keep::near(
-        15,
-        form::range::maybe(r.hdop.there, r.hdop.value, 0, 999999999),
-        w17,
-    );
-    let w15 = form::keep::near(
-        14,
-        form::range::maybe(r.pdop.there, r.pdop.value, 0, 999999999),
-        w16,
-    );
-    let w3 = first_six(r, last_six(r, w15));
+    let w17 = form::keep::near(16, form::range::maybe(r.vdop, 0, 999999999), 0);
+    let w16 = form::keep::near(15, form::range::maybe(r.hdop, 0, 999999999), w17);
+    let w15 = form::keep::near(14, form::range::maybe(r.pdop, 0, 999999999), w16);
+    let w3 = satellites_wrong(r.satellites, w15);
     let w2 = form::keep::near(1, form::range::within(r.fix, 1, 3), w3);
     form::keep::near(0, form_letter::range::letter(r.selection, b"MA"), w2)
 }
 
-fn put_first(out: &mut [u8], at: usize, r: Gsa) -> usize
-    ensures { PutsFields (held at out.old)
-        (satellite_field r 0 ∷ satellite_field r 1 ∷ satellite_field r 2 ∷ satellite_field r 3 ∷ satellite_field r 4 ∷ satellite_field r 5 ∷ [])
-        (held result out.new) }
+// Puts the fields of satellites.
+fn put_satellites(out: &mut [u8], at: usize, s: &[Maybe]) -> usize
+    ensures { PutsFields (held at out.old) (map satellite_text s.now) (held result out.new) }
 {
-    let a0 = form_number::text::two(out, at, r.satellites[0].there, r.satellites[0].value);
-    let a1 = form_number::text::two(out, a0, r.satellites[1].there, r.satellites[1].value);
-    let a2 = form_number::text::two(out, a1, r.satellites[2].there, r.satellites[2].value);
-    let a3 = form_number::text::two(out, a2, r.satellites[3].there, r.satellites[3].value);
-    let a4 = form_number::text::two(out, a3, r.satellites[4].there, r.satellites[4].value);
-    form_number::text::two(out, a4, r.satellites[5].there, r.satellites[5].value)
+    let mut a = at;
+    for m in s {
+        a = form_number::text::two(out, a, *m);
+    }
+    a
 }
 
-fn put_last(out: &mut [u8], at: usize, r: Gsa) -> usize
-    ensures { PutsFields (held at out.old)
-        (satellite_field r 6 ∷ satellite_field r 7 ∷ satellite_field r 8 ∷ satellite_field r 9 ∷ satellite_field r 10 ∷ satellite_field r 11 ∷
-        []) (held result out.new) }
-{
-    let a6 = form_number::text::two(out, at, r.satellites[6].there, r.satellites[6].value);
-    let a7 = form_number::text::two(out, a6, r.satellites[7].there, r.satellites[7].value);
-    let a8 = form_number::text::two(out, a7, r.satellites[8].there, r.satellites[8].value);
-    let a9 = form_number::text::two(out, a8, r.satellites[9].there, r.satellites[9].value);
-    let a10 = form_number::text::two(out, a9, r.satellites[10].there, r.satellites[10].value);
-    form_number::text::two(out, a10, r.satellites[11].there, r.satellites[11].value)
-}
+impl Record for Gsa {
+    ghost fault = { λ r. fault_at (gsa_wrong r) };
 
-fn put_fields(out: &mut [u8], at: usize, r: Gsa) -> usize
-    ensures { PutsFields (held at out.old) (gsa_fields r) (held result out.new) }
-{
-    let a0 = form_letter::text::letter(out, at, r.selection);
-    let a1 = form_number::text::one(out, a0, true, r.fix);
-    let a2 = put_first(out, a1, r);
-    let a3 = put_last(out, a2, r);
-    let a4 = form_number::text::number(out, a3, r.pdop.there, r.pdop.value);
-    let a5 = form_number::text::number(out, a4, r.hdop.there, r.hdop.value);
-    form_number::text::number(out, a5, r.vdop.there, r.vdop.value)
-}
+    ghost texts = { gsa_fields };
 
-fn put_body(out: &mut [u8], t: Talker, r: Gsa) -> usize
-    ensures { Puts (held 0 out.old) (gsa_body t r) (held result out.new) }
-{
-    let a = frame::put_address(out, t, b"GSA");
-    put_fields(out, a, r)
+    fn fault(self) -> Written {
+        frame::fault(wrong(self))
+    }
+
+    fn put_fields(self, out: &mut [u8], at: usize) -> usize {
+        let a0 = form_letter::text::letter(out, at, self.selection);
+        let a1 = form_number::text::one(out, a0, self.fix);
+        let a2 = put_satellites(out, a1, &self.satellites);
+        let a3 = form_number::text::number(out, a2, self.pdop);
+        let a4 = form_number::text::number(out, a3, self.hdop);
+        form_number::text::number(out, a4, self.vdop)
+    }
 }
 
 // Writes the line of a record into `out`, and answers its length. Refused: 5 at the first value outside its
@@ -394,8 +294,5 @@ fn put_body(out: &mut [u8], t: Talker, r: Gsa) -> usize
 pub fn write(out: &mut [u8], t: Talker, r: Gsa) -> Written
     ensures { Writes (fault_at (gsa_wrong r)) (gsa_body t r) out.old result out.new }
 {
-    let mut scratch = [0u8; 96];
-    let n = put_body(&mut scratch, t, r);
-    let fault = frame::fault(wrong(r));
-    frame::finish(out, &scratch, n, fault)
+    frame::record::write_standard(out, t, b"GSA", r)
 }

@@ -4,8 +4,8 @@
 pub mod blank;
 
 ghost use Rattle.std.specs.Prelude.{◌≤◌, ◌≡◌, [], leb, length};
-ghost use Rattle.put.specs.Wrote.{held, Puts, PutsFields};
-ghost use Rattle.fields.specs.Places.{fields_by};
+ghost use Rattle.put.specs.Wrote.{held, PutsFields};
+ghost use Rattle.fields.specs.Parts.{parts_of};
 ghost use Rattle.frame.specs.Written.{Writes};
 ghost use Rattle.kind_gsv.specs.Blank.{is_blank};
 ghost use Rattle.form.specs.Values.{is_missing};
@@ -17,9 +17,12 @@ ghost use Rattle.kind_gsv.specs.Row.{entries_of, entry_form, entry_from, first_o
 ghost use Rattle.kind_gsv.specs.Writing.{entry_fields, first_in, gsv_body, gsv_fault, gsv_fields, gsv_wrong, rest_blank};
 
 use address::Talker;
+use fields::Fields;
 use form::Maybe;
+use form::from_numbers::FromNumbers;
 use form::got::Got;
 use frame::Written;
+use frame::record::Record;
 use numbers::Told;
 
 // A satellite of a GSV sentence; blank is all zero and missing.
@@ -65,10 +68,8 @@ fn lay_four(out: &mut [i64], s: [Entry; 4]) -> bool
     if out.len() < 28 {
         return false;
     }
-    let mut i: usize = 0;
-    while i < 4 {
+    for i in 0..4 {
         lay_entry(&mut out[7 * i..], s[i]);
-        i += 1;
     }
     true
 }
@@ -101,9 +102,9 @@ pub fn entry_at(n: &[i64], i: u16) -> Entry
     let at = i as usize;
     Entry {
         number: numbers::whole_at(n, at),
-        elevation: form::from_numbers::maybe_at(n, at + 1),
-        azimuth: form::from_numbers::maybe_at(n, at + 1 + 2),
-        signal: form::from_numbers::maybe_at(n, at + 1 + 2 + 2),
+        elevation: Maybe::at(n, at + 1),
+        azimuth: Maybe::at(n, at + 1 + 2),
+        signal: Maybe::at(n, at + 1 + 2 + 2),
     }
 }
 
@@ -111,12 +112,11 @@ pub fn entry_at(n: &[i64], i: u16) -> Entry
 fn four(n: &[i64]) -> [Entry; 4]
     ensures { result ≡ list_at entry_layout n.now 5 4 }
 {
-    [
-        entry_at(n, 5),
-        entry_at(n, 12),
-        entry_at(n, 19),
-        entry_at(n, 26),
-    ]
+    let mut s = [blank::entry(); 4];
+    for i in 0..4 {
+        s[i] = entry_at(n, 5 + 7 * i as u16);
+    }
+    s
 }
 
 // The record that numbers say; a number past the end is taken as 0.
@@ -173,9 +173,9 @@ fn entry_from(number: Got, elevation: Got, azimuth: Got, signal: Got) -> GotEntr
         wrong: 0,
         entry: Entry {
             number: number.value,
-            elevation: form::keep::kept(elevation),
-            azimuth: form::keep::kept(azimuth),
-            signal: form::keep::kept(signal),
+            elevation: elevation.into(),
+            azimuth: azimuth.into(),
+            signal: signal.into(),
         },
     }
 }
@@ -184,16 +184,8 @@ fn entry_from(number: Got, elevation: Got, azimuth: Got, signal: Got) -> GotEntr
 // may be empty; blank where the line has no such entry.
 //
 //     77,71,048,53
-fn entry_in(
-    s: &[u8],
-    p: &[usize],
-    used: bool,
-    k1: usize,
-    k2: usize,
-    k3: usize,
-    k4: usize,
-) -> GotEntry
-    ensures { result ≡ entry_form used k1 k2 k3 k4 (fields_by p.now s.now) }
+fn entry_in(f: Fields, used: bool, k1: usize, k2: usize, k3: usize, k4: usize) -> GotEntry
+    ensures { result ≡ entry_form used k1 k2 k3 k4 (parts_of f.entry) }
 {
     if !used {
         return GotEntry {
@@ -201,10 +193,10 @@ fn entry_in(
             entry: blank::entry(),
         };
     }
-    let number = form_number::fixed::exact_in(s, p, k1, 2, 1, 99);
-    let elevation = form_number::fixed::fixed_in(s, p, k2, 2, 0, 90);
-    let azimuth = form_number::fixed::fixed_in(s, p, k3, 3, 0, 359);
-    let signal = form_number::fixed::fixed_in(s, p, k4, 2, 0, 99);
+    let number = form_number::fixed::exact(f.at(k1), 2, 1, 99);
+    let elevation = form_number::fixed::fixed(f.at(k2), 2, 0, 90);
+    let azimuth = form_number::fixed::fixed(f.at(k3), 3, 0, 359);
+    let signal = form_number::fixed::fixed(f.at(k4), 2, 0, 99);
     entry_from(number, elevation, azimuth, signal)
 }
 
@@ -272,25 +264,24 @@ fn gsv_from(
     )
 }
 
-// Reads the fields of a body `s`, `n` of them after the address, by their ends `p`, and lays the numbers of the record at
-// the start of `out`. Refused: 4 where no line has so many fields, 5 at the first wrong field, 8 where
-// `out` is shorter than the record; then `out` is left.
+// Reads the fields of a body, and lays the numbers of the record at the start of `out`. Refused: 4 where no line has so many fields,
+// 5 at the first wrong field, 8 where `out` is shorter than the record; then `out` is left.
 //
 //     $GPGSV,5,5,17,77,71,048,53*43
-pub fn read(out: &mut [i64], t: Talker, n: usize, s: &[u8], p: &[usize]) -> Told
-    ensures { Tells (gsv_told out.old t n (fields_by p.now s.now)) result out.new }
+pub fn read(out: &mut [i64], t: Talker, f: Fields) -> Told
+    ensures { Tells (gsv_told out.old t f.entry.count (parts_of f.entry)) result out.new }
 {
-    let count = entries_of(n);
+    let count = entries_of(f.count);
     if 4 < count {
         return numbers::refuse(4, 0);
     }
-    let lines = form_number::fixed::exact_in(s, p, 1, 1, 1, 9);
-    let line = form_number::fixed::exact_in(s, p, 2, 1, 1, 9);
-    let satellites = form_number::fixed::exact_in(s, p, 3, 2, 0, 99);
-    let e1 = entry_in(s, p, 0 < count, 4, 5, 6, 7);
-    let e2 = entry_in(s, p, 1 < count, 8, 9, 10, 11);
-    let e3 = entry_in(s, p, 2 < count, 12, 13, 14, 15);
-    let e4 = entry_in(s, p, 3 < count, 16, 17, 18, 19);
+    let lines = form_number::fixed::exact(f.at(1), 1, 1, 9);
+    let line = form_number::fixed::exact(f.at(2), 1, 1, 9);
+    let satellites = form_number::fixed::exact(f.at(3), 2, 0, 99);
+    let e1 = entry_in(f, 0 < count, 4, 5, 6, 7);
+    let e2 = entry_in(f, 1 < count, 8, 9, 10, 11);
+    let e3 = entry_in(f, 2 < count, 12, 13, 14, 15);
+    let e4 = entry_in(f, 3 < count, 16, 17, 18, 19);
     gsv_from(out, t, count, lines, line, satellites, e1, e2, e3, e4)
 }
 
@@ -303,21 +294,9 @@ pub fn entry_wrong(used: bool, e: Entry, n: u8, rest: usize) -> usize
     if !used {
         return rest;
     }
-    let w4 = form::keep::near(
-        n + 3,
-        form::range::maybe(e.signal.there, e.signal.value, 0, 99),
-        rest,
-    );
-    let w3 = form::keep::near(
-        n + 2,
-        form::range::maybe(e.azimuth.there, e.azimuth.value, 0, 359),
-        w4,
-    );
-    let w2 = form::keep::near(
-        n + 1,
-        form::range::maybe(e.elevation.there, e.elevation.value, 0, 90),
-        w3,
-    );
+    let w4 = form::keep::near(n + 3, form::range::maybe(e.signal, 0, 99), rest);
+    let w3 = form::keep::near(n + 2, form::range::maybe(e.azimuth, 0, 359), w4);
+    let w2 = form::keep::near(n + 1, form::range::maybe(e.elevation, 0, 90), w3);
     form::keep::near(n, form::range::within(e.number, 1, 99), w2)
 }
 
@@ -334,20 +313,17 @@ fn wrong(r: Gsv) -> usize
     form::keep::near(0, form::range::within(r.lines, 1, 9), w2)
 }
 
-fn is_missing(there: bool, v: u32) -> bool
-    ensures { result ≡ is_missing (record { there = there; value = v }) }
+fn is_missing(m: Maybe) -> bool
+    ensures { result ≡ is_missing m }
 {
-    !there & (v == 0)
+    !m.there && m.value == 0
 }
 
 // Whether an entry is blank: number 0 and three values missing and zero.
 pub fn is_blank(e: Entry) -> bool
     ensures { result ≡ is_blank e }
 {
-    let elevation = is_missing(e.elevation.there, e.elevation.value);
-    let azimuth = is_missing(e.azimuth.there, e.azimuth.value);
-    let signal = is_missing(e.signal.there, e.signal.value);
-    (e.number == 0) & (elevation & (azimuth & signal))
+    e.number == 0 && is_missing(e.elevation) && is_missing(e.azimuth) && is_missing(e.signal)
 }
 
 // Whether each entry that is not used is blank.
@@ -361,53 +337,48 @@ fn rest_blank(r: Gsv) -> bool
     b0 & (b1 & (b2 & b3))
 }
 
-// Why a record is refused: 5 on line 0 for over four entries, 5 on line 1 for the first value outside its
-// range, then 5 on line 0 for an entry that is not used and not blank; nothing where it is good.
-fn fault(r: Gsv) -> Written
-    ensures { result ≡ gsv_fault r }
-{
-    if 4 < r.count {
-        return frame::refuse(5, 0, 0);
-    }
-    let wrong = wrong(r);
-    if wrong != 0 {
-        return frame::refuse(5, 1, wrong);
-    }
-    if rest_blank(r) {
-        return frame::fault(0);
-    }
-    frame::refuse(5, 0, 0)
-}
-
 fn put_entry(out: &mut [u8], at: usize, used: bool, e: Entry) -> usize
     ensures { PutsFields (held at out.old) (entry_fields used e) (held result out.new) }
 {
     if !used {
         return at;
     }
-    let a0 = form_number::text::two(out, at, true, e.number);
-    let a1 = form_number::text::two(out, a0, e.elevation.there, e.elevation.value);
-    let a2 = form_number::text::three(out, a1, e.azimuth.there, e.azimuth.value);
-    form_number::text::two(out, a2, e.signal.there, e.signal.value)
+    let a0 = form_number::text::two(out, at, e.number);
+    let a1 = form_number::text::two(out, a0, e.elevation);
+    let a2 = form_number::text::three(out, a1, e.azimuth);
+    form_number::text::two(out, a2, e.signal)
 }
 
-fn put_fields(out: &mut [u8], at: usize, r: Gsv) -> usize
-    ensures { PutsFields (held at out.old) (gsv_fields r) (held result out.new) }
-{
-    let a0 = form_number::text::one(out, at, true, r.lines);
-    let a1 = form_number::text::one(out, a0, true, r.line);
-    let a2 = form_number::text::two(out, a1, true, r.satellites);
-    let a3 = put_entry(out, a2, 0 < r.count, r.entries[0]);
-    let a4 = put_entry(out, a3, 1 < r.count, r.entries[1]);
-    let a5 = put_entry(out, a4, 2 < r.count, r.entries[2]);
-    put_entry(out, a5, 3 < r.count, r.entries[3])
-}
+impl Record for Gsv {
+    ghost fault = { gsv_fault };
 
-fn put_body(out: &mut [u8], t: Talker, r: Gsv) -> usize
-    ensures { Puts (held 0 out.old) (gsv_body t r) (held result out.new) }
-{
-    let a = frame::put_address(out, t, b"GSV");
-    put_fields(out, a, r)
+    ghost texts = { gsv_fields };
+
+    // Why a record is refused: 5 on line 0 for over four entries, 5 on line 1 for the first value outside its
+    // range, then 5 on line 0 for an entry that is not used and not blank; nothing where it is good.
+    fn fault(self) -> Written {
+        if 4 < self.count {
+            return frame::refuse(5, 0, 0);
+        }
+        let wrong = wrong(self);
+        if wrong != 0 {
+            return frame::refuse(5, 1, wrong);
+        }
+        if rest_blank(self) {
+            return frame::fault(0);
+        }
+        frame::refuse(5, 0, 0)
+    }
+
+    fn put_fields(self, out: &mut [u8], at: usize) -> usize {
+        let a0 = form_number::text::one(out, at, self.lines);
+        let a1 = form_number::text::one(out, a0, self.line);
+        let a2 = form_number::text::two(out, a1, self.satellites);
+        let a3 = put_entry(out, a2, 0 < self.count, self.entries[0]);
+        let a4 = put_entry(out, a3, 1 < self.count, self.entries[1]);
+        let a5 = put_entry(out, a4, 2 < self.count, self.entries[2]);
+        put_entry(out, a5, 3 < self.count, self.entries[3])
+    }
 }
 
 // Writes the line of a record into `out`, and answers its length. Refused: 5 as `fault` says, 8 where `out`
@@ -417,7 +388,5 @@ fn put_body(out: &mut [u8], t: Talker, r: Gsv) -> usize
 pub fn write(out: &mut [u8], t: Talker, r: Gsv) -> Written
     ensures { Writes (gsv_fault r) (gsv_body t r) out.old result out.new }
 {
-    let mut scratch = [0u8; 96];
-    let n = put_body(&mut scratch, t, r);
-    frame::finish(out, &scratch, n, fault(r))
+    frame::record::write_standard(out, t, b"GSV", r)
 }

@@ -1,13 +1,14 @@
 // PIREA: the self-test code.
 ghost use Rattle.std.specs.Prelude.{◌≡◌};
-ghost use Rattle.put.specs.Wrote.{held, Puts, PutsFields};
-ghost use Rattle.fields.specs.Places.{fields_by};
+ghost use Rattle.fields.specs.Parts.{parts_of};
 ghost use Rattle.frame.specs.Written.{fault_at, Writes};
 ghost use Rattle.numbers.specs.Told.{gives, Tells};
 ghost use Rattle.kind_pir_code.specs.Reply.{pirea_at, pirea_body, pirea_fields, pirea_from, pirea_numbers, pirea_told, pirea_wrong};
 
+use fields::Fields;
 use form::got::Got;
 use frame::Written;
+use frame::record::Record;
 use numbers::Told;
 
 #[derive(Clone, Copy)]
@@ -43,18 +44,17 @@ fn pirea_from(out: &mut [i64], code: Got) -> Told
     lay(out, CodeTold { code: code.value })
 }
 
-// Reads the fields of a body `s`, `n` of them after the address, by their ends `p`, and lays the numbers of the record at
-// the start of `out`. Refused: 4 where there are not so many fields as the kind has, 5 at the first wrong field, 8 where
-// `out` is shorter than the record; then `out` is left.
+// Reads the fields of a body, and lays the numbers of the record at the start of `out`. Refused: 4 where there are not so many
+// fields as the kind has, 5 at the first wrong field, 8 where `out` is shorter than the record; then `out` is left.
 //
 //     $PIREA,0*53
-pub fn read(out: &mut [i64], n: usize, s: &[u8], p: &[usize]) -> Told
-    ensures { Tells (pirea_told out.old n (fields_by p.now s.now)) result out.new }
+pub fn read(out: &mut [i64], f: Fields) -> Told
+    ensures { Tells (pirea_told out.old f.entry.count (parts_of f.entry)) result out.new }
 {
-    if n != 1 {
+    if f.count != 1 {
         return numbers::refuse(4, 0);
     }
-    let code = form_mask::plain::code_in(s, p, 1);
+    let code = form_mask::plain::code(f.at(1));
     pirea_from(out, code)
 }
 
@@ -65,17 +65,18 @@ fn wrong(r: CodeTold) -> usize
     form::keep::near(0, form::range::within(r.code, 0, 255), 0)
 }
 
-fn put_fields(out: &mut [u8], at: usize, r: CodeTold) -> usize
-    ensures { PutsFields (held at out.old) (pirea_fields r) (held result out.new) }
-{
-    form_mask::text::plain(out, at, true, r.code)
-}
+impl Record for CodeTold {
+    ghost fault = { λ r. fault_at (pirea_wrong r) };
 
-fn put_body(out: &mut [u8], r: CodeTold) -> usize
-    ensures { Puts (held 0 out.old) (pirea_body r) (held result out.new) }
-{
-    let a = put::put_bytes(out, 0, b"PIREA");
-    put_fields(out, a, r)
+    ghost texts = { pirea_fields };
+
+    fn fault(self) -> Written {
+        frame::fault(wrong(self))
+    }
+
+    fn put_fields(self, out: &mut [u8], at: usize) -> usize {
+        form_mask::text::plain(out, at, self.code)
+    }
 }
 
 // Writes the line of a record into `out`, and answers its length. Refused: 5 at the first value outside its
@@ -85,8 +86,5 @@ fn put_body(out: &mut [u8], r: CodeTold) -> usize
 pub fn write(out: &mut [u8], r: CodeTold) -> Written
     ensures { Writes (fault_at (pirea_wrong r)) (pirea_body r) out.old result out.new }
 {
-    let mut scratch = [0u8; 96];
-    let n = put_body(&mut scratch, r);
-    let fault = frame::fault(wrong(r));
-    frame::finish(out, &scratch, n, fault)
+    frame::record::write_maker(out, b"PIREA", r)
 }

@@ -1,15 +1,17 @@
 // PIRTR: datum and zone; without a datum a question.
 ghost use Rattle.std.specs.Prelude.{◌≡◌};
-ghost use Rattle.put.specs.Wrote.{held, Puts, PutsFields};
-ghost use Rattle.fields.specs.Places.{fields_by};
+ghost use Rattle.fields.specs.Parts.{parts_of};
 ghost use Rattle.frame.specs.Written.{fault_at, Writes};
 ghost use Rattle.numbers.specs.Told.{gives, Tells};
 ghost use Rattle.kind_pir_datum.specs.Command.{pirtr_at, pirtr_body, pirtr_fields, pirtr_from, pirtr_numbers, pirtr_told, pirtr_wrong};
 
+use fields::Fields;
 use form::Maybe;
+use form::from_numbers::FromNumbers;
 use form::got::{Got, GotInt};
 use form_date::Zone;
 use frame::Written;
+use frame::record::Record;
 use numbers::Told;
 
 // Datum and zone to set, or, where the datum is missing, a question.
@@ -37,8 +39,8 @@ pub fn at(n: &[i64]) -> DatumAsked
     ensures { result ≡ pirtr_at n.now }
 {
     DatumAsked {
-        datum: form::from_numbers::maybe(n, 0),
-        zone: form_date::from_numbers::zone(n, 2),
+        datum: Maybe::at(n, 0),
+        zone: Zone::at(n, 2),
     }
 }
 
@@ -55,25 +57,24 @@ fn pirtr_from(out: &mut [i64], datum: Got, zone: GotInt) -> Told
     lay(
         out,
         DatumAsked {
-            datum: form::keep::kept(datum),
+            datum: datum.into(),
             zone: form_date::keep::zoned_if(datum.there, zone),
         },
     )
 }
 
-// Reads the fields of a body `s`, `n` of them after the address, by their ends `p`, and lays the numbers of the record at
-// the start of `out`. Refused: 4 where there are not so many fields as the kind has, 5 at the first wrong field, 8 where
-// `out` is shorter than the record; then `out` is left.
+// Reads the fields of a body, and lays the numbers of the record at the start of `out`. Refused: 4 where there are not so many
+// fields as the kind has, 5 at the first wrong field, 8 where `out` is shorter than the record; then `out` is left.
 //
 //     $PIRTR,0,0300*7E
-pub fn read(out: &mut [i64], n: usize, s: &[u8], p: &[usize]) -> Told
-    ensures { Tells (pirtr_told out.old n (fields_by p.now s.now)) result out.new }
+pub fn read(out: &mut [i64], f: Fields) -> Told
+    ensures { Tells (pirtr_told out.old f.entry.count (parts_of f.entry)) result out.new }
 {
-    if n != 2 {
+    if f.count != 2 {
         return numbers::refuse(4, 0);
     }
-    let datum = form_number::fixed::fixed_in(s, p, 1, 1, 0, 4);
-    let zone = form_date::zones::four_in(s, p, 2);
+    let datum = form_number::fixed::fixed(f.at(1), 1, 0, 4);
+    let zone = form_date::zones::four(f.at(2));
     pirtr_from(out, datum, zone)
 }
 
@@ -90,25 +91,22 @@ fn wrong(r: DatumAsked) -> usize
         ),
         0,
     );
-    form::keep::near(
-        0,
-        form::range::maybe(r.datum.there, r.datum.value, 0, 4),
-        w2,
-    )
+    form::keep::near(0, form::range::maybe(r.datum, 0, 4), w2)
 }
 
-fn put_fields(out: &mut [u8], at: usize, r: DatumAsked) -> usize
-    ensures { PutsFields (held at out.old) (pirtr_fields r) (held result out.new) }
-{
-    let a0 = form_number::text::one(out, at, r.datum.there, r.datum.value);
-    form_date::text::zone_four(out, a0, r.zone.there, r.zone.minutes)
-}
+impl Record for DatumAsked {
+    ghost fault = { λ r. fault_at (pirtr_wrong r) };
 
-fn put_body(out: &mut [u8], r: DatumAsked) -> usize
-    ensures { Puts (held 0 out.old) (pirtr_body r) (held result out.new) }
-{
-    let a = put::put_bytes(out, 0, b"PIRTR");
-    put_fields(out, a, r)
+    ghost texts = { pirtr_fields };
+
+    fn fault(self) -> Written {
+        frame::fault(wrong(self))
+    }
+
+    fn put_fields(self, out: &mut [u8], at: usize) -> usize {
+        let a0 = form_number::text::one(out, at, self.datum);
+        form_date::text::zone_four(out, a0, self.zone)
+    }
 }
 
 // Writes the line of a record into `out`, and answers its length. Refused: 5 at the first value outside its
@@ -118,8 +116,5 @@ fn put_body(out: &mut [u8], r: DatumAsked) -> usize
 pub fn write(out: &mut [u8], r: DatumAsked) -> Written
     ensures { Writes (fault_at (pirtr_wrong r)) (pirtr_body r) out.old result out.new }
 {
-    let mut scratch = [0u8; 96];
-    let n = put_body(&mut scratch, r);
-    let fault = frame::fault(wrong(r));
-    frame::finish(out, &scratch, n, fault)
+    frame::record::write_maker(out, b"PIRTR", r)
 }

@@ -1,13 +1,15 @@
 // PIRTA: datum and zone.
 ghost use Rattle.std.specs.Prelude.{◌≡◌};
-ghost use Rattle.put.specs.Wrote.{held, Puts, PutsFields};
-ghost use Rattle.fields.specs.Places.{fields_by};
+ghost use Rattle.fields.specs.Parts.{parts_of};
 ghost use Rattle.frame.specs.Written.{fault_at, Writes};
 ghost use Rattle.numbers.specs.Told.{gives, Tells};
 ghost use Rattle.kind_pir_datum.specs.Reply.{pirta_at, pirta_body, pirta_fields, pirta_from, pirta_numbers, pirta_told, pirta_wrong};
 
+use fields::Fields;
 use form::got::{Got, GotInt};
+use form_date::Zone;
 use frame::Written;
+use frame::record::Record;
 use numbers::Told;
 
 #[derive(Clone, Copy)]
@@ -53,19 +55,18 @@ fn pirta_from(out: &mut [i64], datum: Got, zone: GotInt) -> Told
     )
 }
 
-// Reads the fields of a body `s`, `n` of them after the address, by their ends `p`, and lays the numbers of the record at
-// the start of `out`. Refused: 4 where there are not so many fields as the kind has, 5 at the first wrong field, 8 where
-// `out` is shorter than the record; then `out` is left.
+// Reads the fields of a body, and lays the numbers of the record at the start of `out`. Refused: 4 where there are not so many
+// fields as the kind has, 5 at the first wrong field, 8 where `out` is shorter than the record; then `out` is left.
 //
 //     $PIRTA,0,0300*6D
-pub fn read(out: &mut [i64], n: usize, s: &[u8], p: &[usize]) -> Told
-    ensures { Tells (pirta_told out.old n (fields_by p.now s.now)) result out.new }
+pub fn read(out: &mut [i64], f: Fields) -> Told
+    ensures { Tells (pirta_told out.old f.entry.count (parts_of f.entry)) result out.new }
 {
-    if n != 2 {
+    if f.count != 2 {
         return numbers::refuse(4, 0);
     }
-    let datum = form_number::fixed::exact_in(s, p, 1, 1, 0, 4);
-    let zone = form_date::zones::four_in(s, p, 2);
+    let datum = form_number::fixed::exact(f.at(1), 1, 0, 4);
+    let zone = form_date::zones::four(f.at(2));
     pirta_from(out, datum, zone)
 }
 
@@ -77,18 +78,23 @@ fn wrong(r: DatumTold) -> usize
     form::keep::near(0, form::range::within(r.datum, 0, 4), w2)
 }
 
-fn put_fields(out: &mut [u8], at: usize, r: DatumTold) -> usize
-    ensures { PutsFields (held at out.old) (pirta_fields r) (held result out.new) }
-{
-    let a0 = form_number::text::one(out, at, true, r.datum);
-    form_date::text::zone_four(out, a0, true, r.zone)
-}
+impl Record for DatumTold {
+    ghost fault = { λ r. fault_at (pirta_wrong r) };
 
-fn put_body(out: &mut [u8], r: DatumTold) -> usize
-    ensures { Puts (held 0 out.old) (pirta_body r) (held result out.new) }
-{
-    let a = put::put_bytes(out, 0, b"PIRTA");
-    put_fields(out, a, r)
+    ghost texts = { pirta_fields };
+
+    fn fault(self) -> Written {
+        frame::fault(wrong(self))
+    }
+
+    fn put_fields(self, out: &mut [u8], at: usize) -> usize {
+        let a0 = form_number::text::one(out, at, self.datum);
+        let zone = Zone {
+            there: true,
+            minutes: self.zone,
+        };
+        form_date::text::zone_four(out, a0, zone)
+    }
 }
 
 // Writes the line of a record into `out`, and answers its length. Refused: 5 at the first value outside its
@@ -98,8 +104,5 @@ fn put_body(out: &mut [u8], r: DatumTold) -> usize
 pub fn write(out: &mut [u8], r: DatumTold) -> Written
     ensures { Writes (fault_at (pirta_wrong r)) (pirta_body r) out.old result out.new }
 {
-    let mut scratch = [0u8; 96];
-    let n = put_body(&mut scratch, r);
-    let fault = frame::fault(wrong(r));
-    frame::finish(out, &scratch, n, fault)
+    frame::record::write_maker(out, b"PIRTA", r)
 }

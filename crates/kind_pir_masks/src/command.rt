@@ -1,14 +1,16 @@
 // PIRSR: the GPS and GLONASS masks; an empty one is not changed.
 ghost use Rattle.std.specs.Prelude.{◌≡◌};
-ghost use Rattle.put.specs.Wrote.{held, Puts, PutsFields};
-ghost use Rattle.fields.specs.Places.{fields_by};
+ghost use Rattle.fields.specs.Parts.{parts_of};
 ghost use Rattle.frame.specs.Written.{fault_at, Writes};
 ghost use Rattle.numbers.specs.Told.{gives, Tells};
 ghost use Rattle.kind_pir_masks.specs.Command.{pirsr_at, pirsr_body, pirsr_fields, pirsr_from, pirsr_numbers, pirsr_told, pirsr_wrong};
 
+use fields::Fields;
 use form::Maybe;
+use form::from_numbers::FromNumbers;
 use form::got::Got;
 use frame::Written;
+use frame::record::Record;
 use numbers::Told;
 
 // Satellite masks to set; a missing one is not changed.
@@ -36,8 +38,8 @@ pub fn at(n: &[i64]) -> MasksAsked
     ensures { result ≡ pirsr_at n.now }
 {
     MasksAsked {
-        gps: form::from_numbers::maybe(n, 0),
-        glonass: form::from_numbers::maybe(n, 2),
+        gps: Maybe::at(n, 0),
+        glonass: Maybe::at(n, 2),
     }
 }
 
@@ -54,26 +56,25 @@ fn pirsr_from(out: &mut [i64], gps: Got, glonass: Got, third: u8) -> Told
     lay(
         out,
         MasksAsked {
-            gps: form::keep::kept(gps),
-            glonass: form::keep::kept(glonass),
+            gps: gps.into(),
+            glonass: glonass.into(),
         },
     )
 }
 
-// Reads the fields of a body `s`, `n` of them after the address, by their ends `p`, and lays the numbers of the record at
-// the start of `out`. Refused: 4 where there are not so many fields as the kind has, 5 at the first wrong field, 8 where
-// `out` is shorter than the record; then `out` is left.
+// Reads the fields of a body, and lays the numbers of the record at the start of `out`. Refused: 4 where there are not so many
+// fields as the kind has, 5 at the first wrong field, 8 where `out` is shorter than the record; then `out` is left.
 //
 //     $PIRSR,7FFEFFFF,FFFFFE,*17
-pub fn read(out: &mut [i64], n: usize, s: &[u8], p: &[usize]) -> Told
-    ensures { Tells (pirsr_told out.old n (fields_by p.now s.now)) result out.new }
+pub fn read(out: &mut [i64], f: Fields) -> Told
+    ensures { Tells (pirsr_told out.old f.entry.count (parts_of f.entry)) result out.new }
 {
-    if n != 3 {
+    if f.count != 3 {
         return numbers::refuse(4, 0);
     }
-    let gps = form_mask::read::satellites_in(s, p, 1, 8);
-    let glonass = form_mask::read::satellites_in(s, p, 2, 6);
-    let third = form::unit::empty_in(s, p, 3);
+    let gps = form_mask::read::satellites(f.at(1), 8);
+    let glonass = form_mask::read::satellites(f.at(2), 6);
+    let third = form::unit::empty(f.at(3));
     pirsr_from(out, gps, glonass, third)
 }
 
@@ -81,31 +82,24 @@ pub fn read(out: &mut [i64], n: usize, s: &[u8], p: &[usize]) -> Told
 fn wrong(r: MasksAsked) -> usize
     ensures { result ≡ pirsr_wrong r }
 {
-    let w2 = form::keep::near(
-        1,
-        form::range::maybe(r.glonass.there, r.glonass.value, 0, 16777215),
-        0,
-    );
-    form::keep::near(
-        0,
-        form::range::maybe(r.gps.there, r.gps.value, 0, 4294967295),
-        w2,
-    )
+    let w2 = form::keep::near(1, form::range::maybe(r.glonass, 0, 16777215), 0);
+    form::keep::near(0, form::range::maybe(r.gps, 0, 4294967295), w2)
 }
 
-fn put_fields(out: &mut [u8], at: usize, r: MasksAsked) -> usize
-    ensures { PutsFields (held at out.old) (pirsr_fields r) (held result out.new) }
-{
-    let a0 = form_mask::text::eight(out, at, r.gps.there, r.gps.value);
-    let a1 = form_mask::text::six(out, a0, r.glonass.there, r.glonass.value);
-    form::text::empty(out, a1)
-}
+impl Record for MasksAsked {
+    ghost fault = { λ r. fault_at (pirsr_wrong r) };
 
-fn put_body(out: &mut [u8], r: MasksAsked) -> usize
-    ensures { Puts (held 0 out.old) (pirsr_body r) (held result out.new) }
-{
-    let a = put::put_bytes(out, 0, b"PIRSR");
-    put_fields(out, a, r)
+    ghost texts = { pirsr_fields };
+
+    fn fault(self) -> Written {
+        frame::fault(wrong(self))
+    }
+
+    fn put_fields(self, out: &mut [u8], at: usize) -> usize {
+        let a0 = form_mask::text::eight(out, at, self.gps);
+        let a1 = form_mask::text::six(out, a0, self.glonass);
+        form::text::empty(out, a1)
+    }
 }
 
 // Writes the line of a record into `out`, and answers its length. Refused: 5 at the first value outside its
@@ -115,8 +109,5 @@ fn put_body(out: &mut [u8], r: MasksAsked) -> usize
 pub fn write(out: &mut [u8], r: MasksAsked) -> Written
     ensures { Writes (fault_at (pirsr_wrong r)) (pirsr_body r) out.old result out.new }
 {
-    let mut scratch = [0u8; 96];
-    let n = put_body(&mut scratch, r);
-    let fault = frame::fault(wrong(r));
-    frame::finish(out, &scratch, n, fault)
+    frame::record::write_maker(out, b"PIRSR", r)
 }

@@ -1,13 +1,14 @@
 // PIRSA: the GPS and GLONASS masks.
 ghost use Rattle.std.specs.Prelude.{◌≡◌};
-ghost use Rattle.put.specs.Wrote.{held, Puts, PutsFields};
-ghost use Rattle.fields.specs.Places.{fields_by};
+ghost use Rattle.fields.specs.Parts.{parts_of};
 ghost use Rattle.frame.specs.Written.{fault_at, Writes};
 ghost use Rattle.numbers.specs.Told.{gives, Tells};
 ghost use Rattle.kind_pir_masks.specs.Reply.{pirsa_at, pirsa_body, pirsa_fields, pirsa_from, pirsa_numbers, pirsa_told, pirsa_wrong};
 
+use fields::Fields;
 use form::got::Got;
 use frame::Written;
+use frame::record::Record;
 use numbers::Told;
 
 #[derive(Clone, Copy)]
@@ -53,20 +54,19 @@ fn pirsa_from(out: &mut [i64], gps: Got, glonass: Got, third: u8) -> Told
     )
 }
 
-// Reads the fields of a body `s`, `n` of them after the address, by their ends `p`, and lays the numbers of the record at
-// the start of `out`. Refused: 4 where there are not so many fields as the kind has, 5 at the first wrong field, 8 where
-// `out` is shorter than the record; then `out` is left.
+// Reads the fields of a body, and lays the numbers of the record at the start of `out`. Refused: 4 where there are not so many
+// fields as the kind has, 5 at the first wrong field, 8 where `out` is shorter than the record; then `out` is left.
 //
 //     $PIRSA,7FFEFFFF,FFFFFE,*04
-pub fn read(out: &mut [i64], n: usize, s: &[u8], p: &[usize]) -> Told
-    ensures { Tells (pirsa_told out.old n (fields_by p.now s.now)) result out.new }
+pub fn read(out: &mut [i64], f: Fields) -> Told
+    ensures { Tells (pirsa_told out.old f.entry.count (parts_of f.entry)) result out.new }
 {
-    if n != 3 {
+    if f.count != 3 {
         return numbers::refuse(4, 0);
     }
-    let gps = form_mask::read::whole_in(s, p, 1, 8);
-    let glonass = form_mask::read::whole_in(s, p, 2, 6);
-    let third = form::unit::empty_in(s, p, 3);
+    let gps = form_mask::read::whole(f.at(1), 8);
+    let glonass = form_mask::read::whole(f.at(2), 6);
+    let third = form::unit::empty(f.at(3));
     pirsa_from(out, gps, glonass, third)
 }
 
@@ -78,19 +78,20 @@ fn wrong(r: MasksTold) -> usize
     form::keep::near(0, form::range::within(r.gps, 0, 4294967295), w2)
 }
 
-fn put_fields(out: &mut [u8], at: usize, r: MasksTold) -> usize
-    ensures { PutsFields (held at out.old) (pirsa_fields r) (held result out.new) }
-{
-    let a0 = form_mask::text::eight(out, at, true, r.gps);
-    let a1 = form_mask::text::six(out, a0, true, r.glonass);
-    form::text::empty(out, a1)
-}
+impl Record for MasksTold {
+    ghost fault = { λ r. fault_at (pirsa_wrong r) };
 
-fn put_body(out: &mut [u8], r: MasksTold) -> usize
-    ensures { Puts (held 0 out.old) (pirsa_body r) (held result out.new) }
-{
-    let a = put::put_bytes(out, 0, b"PIRSA");
-    put_fields(out, a, r)
+    ghost texts = { pirsa_fields };
+
+    fn fault(self) -> Written {
+        frame::fault(wrong(self))
+    }
+
+    fn put_fields(self, out: &mut [u8], at: usize) -> usize {
+        let a0 = form_mask::text::eight(out, at, self.gps);
+        let a1 = form_mask::text::six(out, a0, self.glonass);
+        form::text::empty(out, a1)
+    }
 }
 
 // Writes the line of a record into `out`, and answers its length. Refused: 5 at the first value outside its
@@ -100,8 +101,5 @@ fn put_body(out: &mut [u8], r: MasksTold) -> usize
 pub fn write(out: &mut [u8], r: MasksTold) -> Written
     ensures { Writes (fault_at (pirsa_wrong r)) (pirsa_body r) out.old result out.new }
 {
-    let mut scratch = [0u8; 96];
-    let n = put_body(&mut scratch, r);
-    let fault = frame::fault(wrong(r));
-    frame::finish(out, &scratch, n, fault)
+    frame::record::write_maker(out, b"PIRSA", r)
 }

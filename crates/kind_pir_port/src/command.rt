@@ -1,14 +1,16 @@
 // PIRPR: a port, its rate, protocol and mask; without a rate a question.
 ghost use Rattle.std.specs.Prelude.{◌≡◌};
-ghost use Rattle.put.specs.Wrote.{held, Puts, PutsFields};
-ghost use Rattle.fields.specs.Places.{fields_by};
+ghost use Rattle.fields.specs.Parts.{parts_of};
 ghost use Rattle.frame.specs.Written.{fault_at, Writes};
 ghost use Rattle.numbers.specs.Told.{gives, Tells};
 ghost use Rattle.kind_pir_port.specs.Command.{pirpr_at, pirpr_body, pirpr_fields, pirpr_from, pirpr_numbers, pirpr_told, pirpr_wrong};
 
+use fields::Fields;
 use form::Maybe;
+use form::from_numbers::FromNumbers;
 use form::got::Got;
 use frame::Written;
+use frame::record::Record;
 use numbers::Told;
 
 // A port's settings to set, or, where the rate is missing, a question.
@@ -42,10 +44,10 @@ pub fn at(n: &[i64]) -> PortAsked
     ensures { result ≡ pirpr_at n.now }
 {
     PortAsked {
-        port: form::from_numbers::maybe(n, 0),
-        rate: form::from_numbers::maybe(n, 2),
-        protocol: form::from_numbers::maybe(n, 4),
-        mask: form::from_numbers::maybe(n, 6),
+        port: Maybe::at(n, 0),
+        rate: Maybe::at(n, 2),
+        protocol: Maybe::at(n, 4),
+        mask: Maybe::at(n, 6),
     }
 }
 
@@ -65,29 +67,28 @@ fn pirpr_from(out: &mut [i64], port: Got, rate: Got, protocol: Got, mask: Got) -
     lay(
         out,
         PortAsked {
-            port: form::keep::kept(port),
-            rate: form::keep::kept(rate),
+            port: port.into(),
+            rate: rate.into(),
             protocol: form::keep::kept_if(rate.there, protocol),
             mask: form::keep::kept_if(rate.there, mask),
         },
     )
 }
 
-// Reads the fields of a body `s`, `n` of them after the address, by their ends `p`, and lays the numbers of the record at
-// the start of `out`. Refused: 4 where there are not so many fields as the kind has, 5 at the first wrong field, 8 where
-// `out` is shorter than the record; then `out` is left.
+// Reads the fields of a body, and lays the numbers of the record at the start of `out`. Refused: 4 where there are not so many
+// fields as the kind has, 5 at the first wrong field, 8 where `out` is shorter than the record; then `out` is left.
 //
 //     $PIRPR,0,4800,4,007F*30
-pub fn read(out: &mut [i64], n: usize, s: &[u8], p: &[usize]) -> Told
-    ensures { Tells (pirpr_told out.old n (fields_by p.now s.now)) result out.new }
+pub fn read(out: &mut [i64], f: Fields) -> Told
+    ensures { Tells (pirpr_told out.old f.entry.count (parts_of f.entry)) result out.new }
 {
-    if n != 4 {
+    if f.count != 4 {
         return numbers::refuse(4, 0);
     }
-    let port = form_number::fixed::fixed_in(s, p, 1, 1, 0, 1);
-    let rate = form_mask::plain::rate_in(s, p, 2);
-    let protocol = form_number::fixed::fixed_in(s, p, 3, 1, 0, 4);
-    let mask = form_mask::read::port_mask_in(s, p, 4);
+    let port = form_number::fixed::fixed(f.at(1), 1, 0, 1);
+    let rate = form_mask::plain::rate(f.at(2));
+    let protocol = form_number::fixed::fixed(f.at(3), 1, 0, 4);
+    let mask = form_mask::read::port_mask(f.at(4));
     pirpr_from(out, port, rate, protocol, mask)
 }
 
@@ -109,32 +110,29 @@ fn wrong(r: PortAsked) -> usize
         form::range::alike(
             r.rate.there,
             r.protocol.there,
-            form::range::maybe(r.protocol.there, r.protocol.value, 0, 4),
+            form::range::maybe(r.protocol, 0, 4),
         ),
         w4,
     );
-    let w2 = form::keep::near(
-        1,
-        form::range::maybe(r.rate.there, r.rate.value, 1200, 115200),
-        w3,
-    );
-    form::keep::near(0, form::range::maybe(r.port.there, r.port.value, 0, 1), w2)
+    let w2 = form::keep::near(1, form::range::maybe(r.rate, 1200, 115200), w3);
+    form::keep::near(0, form::range::maybe(r.port, 0, 1), w2)
 }
 
-fn put_fields(out: &mut [u8], at: usize, r: PortAsked) -> usize
-    ensures { PutsFields (held at out.old) (pirpr_fields r) (held result out.new) }
-{
-    let a0 = form_number::text::one(out, at, r.port.there, r.port.value);
-    let a1 = form_mask::text::plain(out, a0, r.rate.there, r.rate.value);
-    let a2 = form_number::text::one(out, a1, r.protocol.there, r.protocol.value);
-    form_mask::text::four(out, a2, r.mask.there, r.mask.value)
-}
+impl Record for PortAsked {
+    ghost fault = { λ r. fault_at (pirpr_wrong r) };
 
-fn put_body(out: &mut [u8], r: PortAsked) -> usize
-    ensures { Puts (held 0 out.old) (pirpr_body r) (held result out.new) }
-{
-    let a = put::put_bytes(out, 0, b"PIRPR");
-    put_fields(out, a, r)
+    ghost texts = { pirpr_fields };
+
+    fn fault(self) -> Written {
+        frame::fault(wrong(self))
+    }
+
+    fn put_fields(self, out: &mut [u8], at: usize) -> usize {
+        let a0 = form_number::text::one(out, at, self.port);
+        let a1 = form_mask::text::plain(out, a0, self.rate);
+        let a2 = form_number::text::one(out, a1, self.protocol);
+        form_mask::text::four(out, a2, self.mask)
+    }
 }
 
 // Writes the line of a record into `out`, and answers its length. Refused: 5 at the first value outside its
@@ -144,8 +142,5 @@ fn put_body(out: &mut [u8], r: PortAsked) -> usize
 pub fn write(out: &mut [u8], r: PortAsked) -> Written
     ensures { Writes (fault_at (pirpr_wrong r)) (pirpr_body r) out.old result out.new }
 {
-    let mut scratch = [0u8; 96];
-    let n = put_body(&mut scratch, r);
-    let fault = frame::fault(wrong(r));
-    frame::finish(out, &scratch, n, fault)
+    frame::record::write_maker(out, b"PIRPR", r)
 }

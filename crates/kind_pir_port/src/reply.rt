@@ -1,13 +1,14 @@
 // PIRPA: a port's rate, protocol and mask.
 ghost use Rattle.std.specs.Prelude.{◌≡◌};
-ghost use Rattle.put.specs.Wrote.{held, Puts, PutsFields};
-ghost use Rattle.fields.specs.Places.{fields_by};
+ghost use Rattle.fields.specs.Parts.{parts_of};
 ghost use Rattle.frame.specs.Written.{fault_at, Writes};
 ghost use Rattle.numbers.specs.Told.{gives, Tells};
 ghost use Rattle.kind_pir_port.specs.Reply.{pirpa_at, pirpa_body, pirpa_fields, pirpa_from, pirpa_numbers, pirpa_told, pirpa_wrong};
 
+use fields::Fields;
 use form::got::Got;
 use frame::Written;
+use frame::record::Record;
 use numbers::Told;
 
 #[derive(Clone, Copy)]
@@ -67,21 +68,20 @@ fn pirpa_from(out: &mut [i64], port: Got, rate: Got, protocol: Got, mask: Got) -
     )
 }
 
-// Reads the fields of a body `s`, `n` of them after the address, by their ends `p`, and lays the numbers of the record at
-// the start of `out`. Refused: 4 where there are not so many fields as the kind has, 5 at the first wrong field, 8 where
-// `out` is shorter than the record; then `out` is left.
+// Reads the fields of a body, and lays the numbers of the record at the start of `out`. Refused: 4 where there are not so many
+// fields as the kind has, 5 at the first wrong field, 8 where `out` is shorter than the record; then `out` is left.
 //
 //     $PIRPA,0,4800,4,007F*23
-pub fn read(out: &mut [i64], n: usize, s: &[u8], p: &[usize]) -> Told
-    ensures { Tells (pirpa_told out.old n (fields_by p.now s.now)) result out.new }
+pub fn read(out: &mut [i64], f: Fields) -> Told
+    ensures { Tells (pirpa_told out.old f.entry.count (parts_of f.entry)) result out.new }
 {
-    if n != 4 {
+    if f.count != 4 {
         return numbers::refuse(4, 0);
     }
-    let port = form_number::fixed::exact_in(s, p, 1, 1, 0, 1);
-    let rate = form_mask::plain::rate_in(s, p, 2);
-    let protocol = form_number::fixed::exact_in(s, p, 3, 1, 0, 4);
-    let mask = form_mask::read::port_mask_in(s, p, 4);
+    let port = form_number::fixed::exact(f.at(1), 1, 0, 1);
+    let rate = form_mask::plain::rate(f.at(2));
+    let protocol = form_number::fixed::exact(f.at(3), 1, 0, 4);
+    let mask = form_mask::read::port_mask(f.at(4));
     pirpa_from(out, port, rate, protocol, mask)
 }
 
@@ -95,20 +95,21 @@ fn wrong(r: PortTold) -> usize
     form::keep::near(0, form::range::within(r.port, 0, 1), w2)
 }
 
-fn put_fields(out: &mut [u8], at: usize, r: PortTold) -> usize
-    ensures { PutsFields (held at out.old) (pirpa_fields r) (held result out.new) }
-{
-    let a0 = form_number::text::one(out, at, true, r.port);
-    let a1 = form_mask::text::plain(out, a0, true, r.rate);
-    let a2 = form_number::text::one(out, a1, true, r.protocol);
-    form_mask::text::four(out, a2, true, r.mask)
-}
+impl Record for PortTold {
+    ghost fault = { λ r. fault_at (pirpa_wrong r) };
 
-fn put_body(out: &mut [u8], r: PortTold) -> usize
-    ensures { Puts (held 0 out.old) (pirpa_body r) (held result out.new) }
-{
-    let a = put::put_bytes(out, 0, b"PIRPA");
-    put_fields(out, a, r)
+    ghost texts = { pirpa_fields };
+
+    fn fault(self) -> Written {
+        frame::fault(wrong(self))
+    }
+
+    fn put_fields(self, out: &mut [u8], at: usize) -> usize {
+        let a0 = form_number::text::one(out, at, self.port);
+        let a1 = form_mask::text::plain(out, a0, self.rate);
+        let a2 = form_number::text::one(out, a1, self.protocol);
+        form_mask::text::four(out, a2, self.mask)
+    }
 }
 
 // Writes the line of a record into `out`, and answers its length. Refused: 5 at the first value outside its
@@ -118,8 +119,5 @@ fn put_body(out: &mut [u8], r: PortTold) -> usize
 pub fn write(out: &mut [u8], r: PortTold) -> Written
     ensures { Writes (fault_at (pirpa_wrong r)) (pirpa_body r) out.old result out.new }
 {
-    let mut scratch = [0u8; 96];
-    let n = put_body(&mut scratch, r);
-    let fault = frame::fault(wrong(r));
-    frame::finish(out, &scratch, n, fault)
+    frame::record::write_maker(out, b"PIRPA", r)
 }

@@ -2,20 +2,22 @@
 #![tactic(auto)]
 
 ghost use Rattle.std.specs.Prelude.{◌≡◌};
-ghost use Rattle.put.specs.Wrote.{held, Puts, PutsFields};
-ghost use Rattle.fields.specs.Places.{fields_by};
+ghost use Rattle.fields.specs.Parts.{parts_of};
 ghost use Rattle.frame.specs.Written.{fault_at, Writes};
 ghost use Rattle.numbers.specs.Told.{gives, Tells};
 ghost use Rattle.kind_rmc.specs.Row.{rmc_at, rmc_body, rmc_fields, rmc_from, rmc_numbers, rmc_told, rmc_wrong};
 
 use address::Talker;
+use fields::Fields;
 use form::Maybe;
+use form::from_numbers::FromNumbers;
 use form::got::{Got, GotInt};
 use form_date::Date;
 use form_date::dates::GotDate;
 use form_number::{Knots, Number, Signed};
 use form_position::{Place, Position};
 use frame::Written;
+use frame::record::Record;
 use numbers::Told;
 
 #[derive(Clone, Copy)]
@@ -63,13 +65,13 @@ pub fn at(n: &[i64]) -> Rmc
     ensures { result ≡ rmc_at n.now }
 {
     Rmc {
-        time: form::from_numbers::maybe(n, 1),
+        time: Maybe::at(n, 1),
         status: numbers::whole_at(n, 3),
-        place: form_position::from_numbers::place(n, 4),
-        speed: form_number::from_numbers::knots(n, 7),
-        course: form_number::from_numbers::number(n, 9),
-        date: form_date::from_numbers::date(n, 11),
-        variation: form_number::from_numbers::signed(n, 15),
+        place: Place::at(n, 4),
+        speed: Knots::at(n, 7),
+        course: Number::at(n, 9),
+        date: Date::at(n, 11),
+        variation: Signed::at(n, 15),
         mode: numbers::whole_at(n, 17),
     }
 }
@@ -104,37 +106,36 @@ fn rmc_from(
         out,
         t,
         Rmc {
-            time: form::keep::kept(time),
+            time: time.into(),
             status: status.value,
-            place: form_position::keep::placed(place),
-            speed: form_number::keep::knots(speed),
-            course: form_number::keep::number(course),
-            date: form_date::keep::dated(date),
-            variation: form_number::keep::signed(variation),
+            place: place.into(),
+            speed: speed.into(),
+            course: course.into(),
+            date: date.into(),
+            variation: variation.into(),
             mode: mode.value,
         },
     )
 }
 
-// Reads the fields of a body `s`, `n` of them after the address, by their ends `p`, and lays the numbers of the record at
-// the start of `out`. Refused: 4 where there are not so many fields as the kind has, 5 at the first wrong field, 8 where
-// `out` is shorter than the record; then `out` is left.
+// Reads the fields of a body, and lays the numbers of the record at the start of `out`. Refused: 4 where there are not so many
+// fields as the kind has, 5 at the first wrong field, 8 where `out` is shorter than the record; then `out` is left.
 //
 //     $GPRMC,075140.00,A,5550.6111,N,03732.2534,E,4.2,182.1,151126,10.5,E,A*0D
-pub fn read(out: &mut [i64], t: Talker, n: usize, s: &[u8], p: &[usize]) -> Told
-    ensures { Tells (rmc_told out.old t n (fields_by p.now s.now)) result out.new }
+pub fn read(out: &mut [i64], t: Talker, f: Fields) -> Told
+    ensures { Tells (rmc_told out.old t f.entry.count (parts_of f.entry)) result out.new }
 {
-    if n != 12 {
+    if f.count != 12 {
         return numbers::refuse(4, 0);
     }
-    let time = form_time::read::time_in(s, p, 1);
-    let status = form_letter::read::letter_in(s, p, 2, b"AV");
-    let place = form_position::read::position_in(s, p, 3, 4, 5, 6);
-    let speed = form_number::read::number_in(s, p, 7);
-    let course = form_number::read::below_in(s, p, 8, 360000);
-    let date = form_date::dates::six_in(s, p, 9);
-    let variation = form_position::read::variation_in(s, p, 10, 11);
-    let mode = form_letter::read::letter_in(s, p, 12, b"ADEMSN");
+    let time = form_time::read::time(f.at(1));
+    let status = form_letter::read::letter(f.at(2), b"AV");
+    let place = form_position::read::position(f.at(3), f.at(4), f.at(5), f.at(6));
+    let speed = form_number::read::number(f.at(7));
+    let course = form_number::read::below(f.at(8), 360000);
+    let date = form_date::dates::six(f.at(9));
+    let variation = form_position::read::variation(f.at(10), f.at(11));
+    let mode = form_letter::read::letter(f.at(12), b"ADEMSN");
     rmc_from(
         out, t, time, status, place, speed, course, date, variation, mode,
     )
@@ -151,43 +152,32 @@ fn wrong(r: Rmc) -> usize
         w12,
     );
     let w9 = form::keep::near(8, form_date::range::six(r.date), w10);
-    let w8 = form::keep::near(
-        7,
-        form::range::maybe(r.course.there, r.course.value, 0, 359999),
-        w9,
-    );
-    let w7 = form::keep::near(
-        6,
-        form::range::maybe(r.speed.there, r.speed.value, 0, 999999999),
-        w8,
-    );
+    let w8 = form::keep::near(7, form::range::maybe(r.course, 0, 359999), w9);
+    let w7 = form::keep::near(6, form::range::maybe(r.speed, 0, 999999999), w8);
     let w3 = form::keep::near(2, form_position::range::place(r.place), w7);
     let w2 = form::keep::near(1, form_letter::range::letter(r.status, b"AV"), w3);
-    form::keep::near(
-        0,
-        form::range::maybe(r.time.there, r.time.value, 0, 8639999),
-        w2,
-    )
+    form::keep::near(0, form::range::maybe(r.time, 0, 8639999), w2)
 }
 
-fn put_fields(out: &mut [u8], at: usize, r: Rmc) -> usize
-    ensures { PutsFields (held at out.old) (rmc_fields r) (held result out.new) }
-{
-    let a0 = form_time::text::time(out, at, r.time.there, r.time.value);
-    let a1 = form_letter::text::letter(out, a0, r.status);
-    let a2 = form_position::text::place(out, a1, r.place);
-    let a3 = form_number::text::number(out, a2, r.speed.there, r.speed.value);
-    let a4 = form_number::text::number(out, a3, r.course.there, r.course.value);
-    let a5 = form_date::text::six(out, a4, r.date);
-    let a6 = form_position::text::variation(out, a5, r.variation);
-    form_letter::text::letter(out, a6, r.mode)
-}
+impl Record for Rmc {
+    ghost fault = { λ r. fault_at (rmc_wrong r) };
 
-fn put_body(out: &mut [u8], t: Talker, r: Rmc) -> usize
-    ensures { Puts (held 0 out.old) (rmc_body t r) (held result out.new) }
-{
-    let a = frame::put_address(out, t, b"RMC");
-    put_fields(out, a, r)
+    ghost texts = { rmc_fields };
+
+    fn fault(self) -> Written {
+        frame::fault(wrong(self))
+    }
+
+    fn put_fields(self, out: &mut [u8], at: usize) -> usize {
+        let a0 = form_time::text::time(out, at, self.time);
+        let a1 = form_letter::text::letter(out, a0, self.status);
+        let a2 = form_position::text::place(out, a1, self.place);
+        let a3 = form_number::text::number(out, a2, self.speed);
+        let a4 = form_number::text::number(out, a3, self.course);
+        let a5 = form_date::text::six(out, a4, self.date);
+        let a6 = form_position::text::variation(out, a5, self.variation);
+        form_letter::text::letter(out, a6, self.mode)
+    }
 }
 
 // Writes the line of a record into `out`, and answers its length. Refused: 5 at the first value outside its
@@ -197,8 +187,5 @@ fn put_body(out: &mut [u8], t: Talker, r: Rmc) -> usize
 pub fn write(out: &mut [u8], t: Talker, r: Rmc) -> Written
     ensures { Writes (fault_at (rmc_wrong r)) (rmc_body t r) out.old result out.new }
 {
-    let mut scratch = [0u8; 96];
-    let n = put_body(&mut scratch, t, r);
-    let fault = frame::fault(wrong(r));
-    frame::finish(out, &scratch, n, fault)
+    frame::record::write_standard(out, t, b"RMC", r)
 }

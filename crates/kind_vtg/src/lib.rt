@@ -2,16 +2,18 @@
 #![tactic(auto)]
 
 ghost use Rattle.std.specs.Prelude.{◌≡◌};
-ghost use Rattle.put.specs.Wrote.{held, Puts, PutsFields};
-ghost use Rattle.fields.specs.Places.{fields_by};
+ghost use Rattle.fields.specs.Parts.{parts_of};
 ghost use Rattle.frame.specs.Written.{fault_at, Writes};
 ghost use Rattle.numbers.specs.Told.{gives, Tells};
 ghost use Rattle.kind_vtg.specs.Row.{vtg_at, vtg_body, vtg_fields, vtg_from, vtg_numbers, vtg_told, vtg_wrong};
 
 use address::Talker;
+use fields::Fields;
+use form::from_numbers::FromNumbers;
 use form::got::Got;
 use form_number::{Kmh, Knots, Number};
 use frame::Written;
+use frame::record::Record;
 use numbers::Told;
 
 #[derive(Clone, Copy)]
@@ -48,10 +50,10 @@ pub fn at(n: &[i64]) -> Vtg
     ensures { result ≡ vtg_at n.now }
 {
     Vtg {
-        course: form_number::from_numbers::number(n, 1),
-        magnetic: form_number::from_numbers::number(n, 3),
-        knots: form_number::from_numbers::knots(n, 5),
-        kmh: form_number::from_numbers::kmh(n, 7),
+        course: Number::at(n, 1),
+        magnetic: Number::at(n, 3),
+        knots: Knots::at(n, 5),
+        kmh: Kmh::at(n, 7),
         mode: numbers::whole_at(n, 9),
     }
 }
@@ -88,35 +90,34 @@ fn vtg_from(
         out,
         t,
         Vtg {
-            course: form_number::keep::number(course),
-            magnetic: form_number::keep::number(magnetic),
-            knots: form_number::keep::knots(speed),
-            kmh: form_number::keep::kmh(metric),
+            course: course.into(),
+            magnetic: magnetic.into(),
+            knots: speed.into(),
+            kmh: metric.into(),
             mode: mode.value,
         },
     )
 }
 
-// Reads the fields of a body `s`, `n` of them after the address, by their ends `p`, and lays the numbers of the record at
-// the start of `out`. Refused: 4 where there are not so many fields as the kind has, 5 at the first wrong field, 8 where
-// `out` is shorter than the record; then `out` is left.
+// Reads the fields of a body, and lays the numbers of the record at the start of `out`. Refused: 4 where there are not so many
+// fields as the kind has, 5 at the first wrong field, 8 where `out` is shorter than the record; then `out` is left.
 //
 //     $GPVTG,182.1,T,171.6,M,4.2,N,7.8,K,A*21
-pub fn read(out: &mut [i64], t: Talker, n: usize, s: &[u8], p: &[usize]) -> Told
-    ensures { Tells (vtg_told out.old t n (fields_by p.now s.now)) result out.new }
+pub fn read(out: &mut [i64], t: Talker, f: Fields) -> Told
+    ensures { Tells (vtg_told out.old t f.entry.count (parts_of f.entry)) result out.new }
 {
-    if n != 9 {
+    if f.count != 9 {
         return numbers::refuse(4, 0);
     }
-    let course = form_number::read::below_in(s, p, 1, 360000);
-    let t2 = form::unit::unit_in(s, p, 2, course.there, b'T');
-    let magnetic = form_number::read::below_in(s, p, 3, 360000);
-    let m4 = form::unit::unit_in(s, p, 4, magnetic.there, b'M');
-    let speed = form_number::read::number_in(s, p, 5);
-    let n6 = form::unit::unit_in(s, p, 6, speed.there, b'N');
-    let metric = form_number::read::number_in(s, p, 7);
-    let k8 = form::unit::unit_in(s, p, 8, metric.there, b'K');
-    let mode = form_letter::read::letter_in(s, p, 9, b"ADEMSN");
+    let course = form_number::read::below(f.at(1), 360000);
+    let t2 = form::unit::unit(f.at(2), course.there, b'T');
+    let magnetic = form_number::read::below(f.at(3), 360000);
+    let m4 = form::unit::unit(f.at(4), magnetic.there, b'M');
+    let speed = form_number::read::number(f.at(5));
+    let n6 = form::unit::unit(f.at(6), speed.there, b'N');
+    let metric = form_number::read::number(f.at(7));
+    let k8 = form::unit::unit(f.at(8), metric.there, b'K');
+    let mode = form_letter::read::letter(f.at(9), b"ADEMSN");
     vtg_from(
         out, t, course, t2, magnetic, m4, speed, n6, metric, k8, mode,
     )
@@ -127,47 +128,32 @@ fn wrong(r: Vtg) -> usize
     ensures { result ≡ vtg_wrong r }
 {
     let w9 = form::keep::near(8, form_letter::range::letter(r.mode, b"ADEMSN"), 0);
-    let w7 = form::keep::near(
-        6,
-        form::range::maybe(r.kmh.there, r.kmh.value, 0, 999999999),
-        w9,
-    );
-    let w5 = form::keep::near(
-        4,
-        form::range::maybe(r.knots.there, r.knots.value, 0, 999999999),
-        w7,
-    );
-    let w3 = form::keep::near(
-        2,
-        form::range::maybe(r.magnetic.there, r.magnetic.value, 0, 359999),
-        w5,
-    );
-    form::keep::near(
-        0,
-        form::range::maybe(r.course.there, r.course.value, 0, 359999),
-        w3,
-    )
+    let w7 = form::keep::near(6, form::range::maybe(r.kmh, 0, 999999999), w9);
+    let w5 = form::keep::near(4, form::range::maybe(r.knots, 0, 999999999), w7);
+    let w3 = form::keep::near(2, form::range::maybe(r.magnetic, 0, 359999), w5);
+    form::keep::near(0, form::range::maybe(r.course, 0, 359999), w3)
 }
 
-fn put_fields(out: &mut [u8], at: usize, r: Vtg) -> usize
-    ensures { PutsFields (held at out.old) (vtg_fields r) (held result out.new) }
-{
-    let a0 = form_number::text::number(out, at, r.course.there, r.course.value);
-    let a1 = form::text::unit(out, a0, r.course.there, b'T');
-    let a2 = form_number::text::number(out, a1, r.magnetic.there, r.magnetic.value);
-    let a3 = form::text::unit(out, a2, r.magnetic.there, b'M');
-    let a4 = form_number::text::number(out, a3, r.knots.there, r.knots.value);
-    let a5 = form::text::unit(out, a4, r.knots.there, b'N');
-    let a6 = form_number::text::number(out, a5, r.kmh.there, r.kmh.value);
-    let a7 = form::text::unit(out, a6, r.kmh.there, b'K');
-    form_letter::text::letter(out, a7, r.mode)
-}
+impl Record for Vtg {
+    ghost fault = { λ r. fault_at (vtg_wrong r) };
 
-fn put_body(out: &mut [u8], t: Talker, r: Vtg) -> usize
-    ensures { Puts (held 0 out.old) (vtg_body t r) (held result out.new) }
-{
-    let a = frame::put_address(out, t, b"VTG");
-    put_fields(out, a, r)
+    ghost texts = { vtg_fields };
+
+    fn fault(self) -> Written {
+        frame::fault(wrong(self))
+    }
+
+    fn put_fields(self, out: &mut [u8], at: usize) -> usize {
+        let a0 = form_number::text::number(out, at, self.course);
+        let a1 = form::text::unit(out, a0, self.course.there, b'T');
+        let a2 = form_number::text::number(out, a1, self.magnetic);
+        let a3 = form::text::unit(out, a2, self.magnetic.there, b'M');
+        let a4 = form_number::text::number(out, a3, self.knots);
+        let a5 = form::text::unit(out, a4, self.knots.there, b'N');
+        let a6 = form_number::text::number(out, a5, self.kmh);
+        let a7 = form::text::unit(out, a6, self.kmh.there, b'K');
+        form_letter::text::letter(out, a7, self.mode)
+    }
 }
 
 // Writes the line of a record into `out`, and answers its length. Refused: 5 at the first value outside its
@@ -177,8 +163,5 @@ fn put_body(out: &mut [u8], t: Talker, r: Vtg) -> usize
 pub fn write(out: &mut [u8], t: Talker, r: Vtg) -> Written
     ensures { Writes (fault_at (vtg_wrong r)) (vtg_body t r) out.old result out.new }
 {
-    let mut scratch = [0u8; 96];
-    let n = put_body(&mut scratch, t, r);
-    let fault = frame::fault(wrong(r));
-    frame::finish(out, &scratch, n, fault)
+    frame::record::write_standard(out, t, b"VTG", r)
 }

@@ -2,18 +2,20 @@
 #![tactic(auto)]
 
 ghost use Rattle.std.specs.Prelude.{◌≡◌};
-ghost use Rattle.put.specs.Wrote.{held, Puts, PutsFields};
-ghost use Rattle.fields.specs.Places.{fields_by};
+ghost use Rattle.fields.specs.Parts.{parts_of};
 ghost use Rattle.frame.specs.Written.{fault_at, Writes};
 ghost use Rattle.numbers.specs.Told.{gives, Tells};
 ghost use Rattle.kind_zda.specs.Row.{zda_at, zda_body, zda_fields, zda_from, zda_numbers, zda_told, zda_wrong};
 
 use address::Talker;
+use fields::Fields;
 use form::Maybe;
+use form::from_numbers::FromNumbers;
 use form::got::{Got, GotInt};
 use form_date::dates::GotDate;
 use form_date::{Date, Zone};
 use frame::Written;
+use frame::record::Record;
 use numbers::Told;
 
 #[derive(Clone, Copy)]
@@ -47,9 +49,9 @@ pub fn at(n: &[i64]) -> Zda
     ensures { result ≡ zda_at n.now }
 {
     Zda {
-        time: form::from_numbers::maybe(n, 1),
-        date: form_date::from_numbers::date(n, 3),
-        zone: form_date::from_numbers::zone(n, 7),
+        time: Maybe::at(n, 1),
+        date: Date::at(n, 3),
+        zone: Zone::at(n, 7),
     }
 }
 
@@ -67,27 +69,26 @@ fn zda_from(out: &mut [i64], t: Talker, time: Got, date: GotDate, zone: GotInt) 
         out,
         t,
         Zda {
-            time: form::keep::kept(time),
-            date: form_date::keep::dated(date),
-            zone: form_date::keep::zoned(zone),
+            time: time.into(),
+            date: date.into(),
+            zone: zone.into(),
         },
     )
 }
 
-// Reads the fields of a body `s`, `n` of them after the address, by their ends `p`, and lays the numbers of the record at
-// the start of `out`. Refused: 4 where there are not so many fields as the kind has, 5 at the first wrong field, 8 where
-// `out` is shorter than the record; then `out` is left.
+// Reads the fields of a body, and lays the numbers of the record at the start of `out`. Refused: 4 where there are not so many
+// fields as the kind has, 5 at the first wrong field, 8 where `out` is shorter than the record; then `out` is left.
 //
 //     $GPZDA,075140.00,15,11,2026,-00,30*4D
-pub fn read(out: &mut [i64], t: Talker, n: usize, s: &[u8], p: &[usize]) -> Told
-    ensures { Tells (zda_told out.old t n (fields_by p.now s.now)) result out.new }
+pub fn read(out: &mut [i64], t: Talker, f: Fields) -> Told
+    ensures { Tells (zda_told out.old t f.entry.count (parts_of f.entry)) result out.new }
 {
-    if n != 6 {
+    if f.count != 6 {
         return numbers::refuse(4, 0);
     }
-    let time = form_time::read::time_in(s, p, 1);
-    let date = form_date::dates::three_in(s, p, 2, 3, 4);
-    let zone = form_date::zones::zone_in(s, p, 5, 6);
+    let time = form_time::read::time(f.at(1));
+    let date = form_date::dates::three(f.at(2), f.at(3), f.at(4));
+    let zone = form_date::zones::two(f.at(5), f.at(6));
     zda_from(out, t, time, date, zone)
 }
 
@@ -97,26 +98,23 @@ fn wrong(r: Zda) -> usize
 {
     let w5 = form::keep::near(4, form::range::signed(r.zone.there, r.zone.minutes, 839), 0);
     let w2 = form::keep::near(1, form_date::range::three(r.date), w5);
-    form::keep::near(
-        0,
-        form::range::maybe(r.time.there, r.time.value, 0, 8639999),
-        w2,
-    )
+    form::keep::near(0, form::range::maybe(r.time, 0, 8639999), w2)
 }
 
-fn put_fields(out: &mut [u8], at: usize, r: Zda) -> usize
-    ensures { PutsFields (held at out.old) (zda_fields r) (held result out.new) }
-{
-    let a0 = form_time::text::time(out, at, r.time.there, r.time.value);
-    let a1 = form_date::text::three(out, a0, r.date);
-    form_date::text::zone(out, a1, r.zone)
-}
+impl Record for Zda {
+    ghost fault = { λ r. fault_at (zda_wrong r) };
 
-fn put_body(out: &mut [u8], t: Talker, r: Zda) -> usize
-    ensures { Puts (held 0 out.old) (zda_body t r) (held result out.new) }
-{
-    let a = frame::put_address(out, t, b"ZDA");
-    put_fields(out, a, r)
+    ghost texts = { zda_fields };
+
+    fn fault(self) -> Written {
+        frame::fault(wrong(self))
+    }
+
+    fn put_fields(self, out: &mut [u8], at: usize) -> usize {
+        let a0 = form_time::text::time(out, at, self.time);
+        let a1 = form_date::text::three(out, a0, self.date);
+        form_date::text::zone(out, a1, self.zone)
+    }
 }
 
 // Writes the line of a record into `out`, and answers its length. Refused: 5 at the first value outside its
@@ -126,8 +124,5 @@ fn put_body(out: &mut [u8], t: Talker, r: Zda) -> usize
 pub fn write(out: &mut [u8], t: Talker, r: Zda) -> Written
     ensures { Writes (fault_at (zda_wrong r)) (zda_body t r) out.old result out.new }
 {
-    let mut scratch = [0u8; 96];
-    let n = put_body(&mut scratch, t, r);
-    let fault = frame::fault(wrong(r));
-    frame::finish(out, &scratch, n, fault)
+    frame::record::write_standard(out, t, b"ZDA", r)
 }

@@ -1,7 +1,7 @@
 -- Laws of the line rule as the code meets it: one for each way out, and one for each byte of a body.
 use Prim.Native.Nat.{ℕ, ◌+◌, ◌-◌, ◌≤◌, ◌<◌}
-use mathlib.Core.Path.{◌∙◌, ◌≡◌, sym}
-use mathlib.Core.List.{[], List}
+use mathlib.Core.Path.{◌∙◌, ◌≡◌, refl, sym}
+use mathlib.Core.List.{[], ◌∷◌, List}
 use mathlib.Core.Bool.{Bool, true, false, cond, ◌&&◌}
 use native.Mathlib.Omega.{arith}
 use native.Mathlib.Numerals.{add-one}
@@ -9,6 +9,7 @@ use lib.Dec.{leb}
 use lib.ListN.{length, get_or, take, drop, drop_of_length-le}
 use lib.Seq.{drop-cons}
 use lib.Bits.{bit_xor}
+use Rattle.std.specs.List.{fold}
 use borrow.Author.Tests.{eq-eqb, ne_eqb, le-leb, leb-true, lt-leb}
 use Rattle.digits.proofs.Bools.{and_assoc, and_left, and_right, and-true}
 use Rattle.line.specs.Line.{body_byte, body_bytes, body_of, edge_form, end_form, end_gives, end_of, line_form, line_refusal, none_of}
@@ -95,6 +96,12 @@ module _ (s : List ℕ) (i : ℕ) (h : length s ≤ i) where
   pub xor-end : (x : ℕ) → xor_from x (drop i s) ≡ x
   unfolding xor_from
   xor-end x = rw (drop_of_length-le s h)
+
+-- The XOR, as a fold.
+pub xor-fold : (x : ℕ) (s : List ℕ) → fold bit_xor x s ≡ xor_from x s
+unfolding xor_from
+xor-fold x [] = refl
+xor-fold x (b ∷ s) = xor-fold (bit_xor x b) s
 
 -- the part of a line between its first byte and its end, as the code lends it
 pub body-part : (l : List ℕ) → take (length l - 5 - 1) (drop 1 l) ≡ body_of l

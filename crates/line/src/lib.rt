@@ -10,15 +10,22 @@ ghost use Rattle.line.specs.Ends.{ends_from, ends_in, passing};
 fn is_plain(b: u8) -> bool
     ensures { result ≡ (leb 45 b && leb b 91) }
 {
-    (b'-' <= b) & (b <= b'[')
+    b'-' <= b && b <= b'['
 }
 
 // Whether `b` may stand in a body.
+#[tactic(auto, unfolding(crate::specs::Line::body_byte, crate::specs::Line::none_of))]
 pub fn may_stand(b: u8) -> bool
     ensures { result ≡ body_byte b }
 {
-    let other = (b != b'!') & ((b != b'\\') & ((b != b'^') & (b != b'~')));
-    (b' ' <= b) & ((b <= b'~') & ((b != b'$') & ((b != b'*') & other)))
+    b' ' <= b
+        && b <= b'~'
+        && b != b'$'
+        && b != b'*'
+        && b != b'!'
+        && b != b'\\'
+        && b != b'^'
+        && b != b'~'
 }
 
 // Stores `i` at place `n` of `p`, if it has one.
@@ -48,20 +55,17 @@ fn scan(s: &[u8], p: &mut [usize]) -> Found
     let mut good = true;
     let mut xor: u8 = 0;
     let mut n: usize = 0;
-    let mut i: usize = 0;
-    while i < s.len() {
-        let b = s[i];
-        xor = xor ^ b;
+    for (i, &b) in s.iter().enumerate() {
+        xor ^= b;
         if is_plain(b) {
-            i += 1;
             continue;
         }
+        // `&` leaves no branch here: the loop passes over every byte of a line.
         good = good & may_stand(b);
         store(p, n, i);
         n += (b == b',') as usize;
-        i += 1;
     }
-    store(p, n, i);
+    store(p, n, s.len());
     Found {
         good,
         xor,
@@ -74,8 +78,7 @@ fn end_form(t: &[u8]) -> bool
     requires { length t.now ≡ 5 }
     ensures { result ≡ end_form t.now }
 {
-    (t[0] == b'*')
-        & (digits::is_hex(t[1]) & (digits::is_hex(t[2]) & ((t[3] == b'\r') & (t[4] == b'\n'))))
+    t[0] == b'*' && digits::is_hex(t[1]) && digits::is_hex(t[2]) && t[3] == b'\r' && t[4] == b'\n'
 }
 
 // Whether the digits of a line's end give `x`.
@@ -83,7 +86,7 @@ fn end_gives(x: u8, t: &[u8]) -> bool
     requires { length t.now ≡ 5 }
     ensures { result ≡ end_gives x t.now }
 {
-    (t[1] == digits::hex_of(x / 16)) & (t[2] == digits::hex_of(x))
+    t[1] == digits::hex_of(x / 16) && t[2] == digits::hex_of(x)
 }
 
 // Whether `line` has the edges of a line: 7 to 82 bytes, `$` first, and a line's end.
@@ -91,16 +94,10 @@ fn edges(line: &[u8]) -> bool
     ensures { result ≡ edge_form line.now }
 {
     let n = line.len();
-    if n < 7 {
+    if n < 7 || 82 < n {
         return false;
     }
-    if 82 < n {
-        return false;
-    }
-    if line[0] != b'$' {
-        return false;
-    }
-    end_form(&line[n - 5..])
+    line[0] == b'$' && end_form(&line[n - 5..])
 }
 
 // What the rule says of a line that has its edges, by its body and its digits.
@@ -108,9 +105,12 @@ fn judged(good: bool, gives: bool) -> u8
     ensures { result ≡ cond good (cond gives 0 2) 1 }
 {
     if !good {
-        return 1;
+        1
+    } else if gives {
+        0
+    } else {
+        2
     }
-    if gives { 0 } else { 2 }
 }
 
 // What one pass over a line finds: what the line rule says of it, and how many fields its body has.

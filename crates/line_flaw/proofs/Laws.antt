@@ -1,13 +1,14 @@
 -- Laws of flaws: one for each way out of the code, and that a line has no flaw exactly where it has the form of the line rule.
-use Prim.Native.Nat.{ℕ, ◌+◌, ◌≤◌, ◌<◌}
+use Prim.Native.Nat.{ℕ, ◌+◌, ◌≤◌}
 use mathlib.Core.Path.{◌∙◌, ◌≡◌, refl, sym}
 use mathlib.Core.List.{List, [], ◌∷◌}
-use mathlib.Core.Bool.{Bool, true, false, cond, ◌&&◌}
+use mathlib.Core.Bool.{Bool, true, false, cond, not, ◌&&◌}
 use native.Mathlib.Omega.{arith}
-use native.Mathlib.Numerals.{add-one}
+use Rattle.std.specs.List.{position_from}
+use Rattle.std.proofs.Common.{Some}
+use Rattle.std.specs.Option.{MatchOption}
 use lib.Dec.{eqb, leb}
-use lib.ListN.{length, get_or, drop, drop_of_length-le}
-use lib.Seq.{drop-cons}
+use lib.ListN.{length, get_or}
 use borrow.Author.Tests.{eq-eqb, ne_eqb, le-leb}
 use Rattle.digits.proofs.Bools.{and-true}
 use Rattle.digits.specs.Hex.{hex_digit}
@@ -15,22 +16,23 @@ use Rattle.digits.specs.Pick.{pick}
 use Rattle.line.specs.Line.{body_byte, body_bytes, body_of, edge_form, end_form, end_of, line_form}
 use Rattle.line_flaw.specs.Flaw.{end_parts, first_failing, flaw, flaw_of, forbidden, Part}
 
--- the bytes of a body, one after another
-shift : (i : ℕ) → i + 2 + 1 ≡ i + 1 + 2
-shift i = omega arith
+-- the first forbidden byte of a body, found as a place counted from 0
+abbrev pub is_forbidden : ℕ → Bool
+is_forbidden b = not (body_byte b)
 
-module _ (s : List ℕ) (i : ℕ) where
-  pub forbidden-here : i < length s → body_byte (get_or s i 0) ≡ false → forbidden (i + 2) (drop i s) ≡ i + 2
-  unfolding forbidden
-  forbidden-here h e = rw (drop-cons s i 0 h, e)
+pub forbidden-at : (i k : ℕ) (s : List ℕ) → MatchOption (position_from is_forbidden k s) (0 ≡ forbidden (k + i) s) (λ j. j + i ≡ forbidden (k + i) s)
+unfolding forbidden
+forbidden-at i k [] = refl
+forbidden-at i k (b ∷ s) = go (body_byte b) (forbidden-at i (k + 1) s)
+  where
+    next : k + 1 + i ≡ k + i + 1
+    next = omega arith
 
-  pub forbidden-next : i < length s → body_byte (get_or s i 0) ≡ true → forbidden (i + 2) (drop i s) ≡ forbidden (i + 1 + 2) (drop (i + 1) s)
-  unfolding forbidden
-  forbidden-next h e = rw (drop-cons s i 0 h, e, shift i, add-one i)
-
-  pub forbidden-end : length s ≤ i → forbidden (i + 2) (drop i s) ≡ 0
-  unfolding forbidden
-  forbidden-end h = rw (drop_of_length-le s h)
+    go : (t : Bool) → MatchOption (position_from is_forbidden (k + 1) s) (0 ≡ forbidden (k + 1 + i) s) (λ j. j + i ≡ forbidden (k + 1 + i) s)
+        → MatchOption (cond (not t) (Some k) (position_from is_forbidden (k + 1) s)) (0 ≡ cond t (forbidden (k + i + 1) s) (k + i))
+        (λ j. j + i ≡ cond t (forbidden (k + i + 1) s) (k + i))
+    go true ih = rw next at ih
+    go false ih = refl
 
 -- a line that begins well
 pub flaw-end : (l : List ℕ) → 7 ≤ length l → length l ≤ 82 → get_or l 0 0 ≡ 36

@@ -17,14 +17,10 @@ pub struct Flaw {
 fn forbidden_in(s: &[u8]) -> usize
     ensures { result ≡ forbidden 2 s.now }
 {
-    let mut i: usize = 0;
-    while i < s.len() {
-        if !line::may_stand(s[i]) {
-            return i + 2;
-        }
-        i += 1;
+    match s.iter().position(|&b| !line::may_stand(b)) {
+        Some(i) => i + 2,
+        None => 0,
     }
-    0
 }
 
 // The flaw of a line of `n` bytes whose last five are `t`, by the place of a forbidden byte of its body.

@@ -1,29 +1,39 @@
 -- The cut: its first line and the rest, as a loop meets them, and that lines joined again are the bytes.
-use Prim.Native.Nat.{ℕ, suc, ◌+◌, ◌≤◌, ◌<◌}
+use Prim.Native.Nat.{ℕ, suc, ◌+◌, ◌-◌, ◌≤◌, ◌<◌}
 use mathlib.Core.Path.{◌≡◌, refl, ◌∙◌, ap, ap₂}
 use mathlib.Core.List.{List, [], ◌∷◌, ◌++◌}
 use mathlib.Core.Bool.{Bool, true, false, cond}
 use native.Mathlib.Omega.{arith}
-use native.Mathlib.Numerals.{add-one}
-use lib.ListN.{length, get_or, take, drop, drop_of_length-le, length-drop}
-use lib.Seq.{drop-cons, drop-drop}
+use lib.ListN.{length, take, drop, drop_of_length-le, length-drop}
+use lib.Seq.{drop-drop, take_all}
+use Rattle.std.proofs.Common.{Some, None, Option}
+use Rattle.std.specs.List.{position_from, slice_range}
+use Rattle.std.specs.Option.{MatchOption}
 use lib.Dec.{eqb}
-use borrow.Author.Tests.{eq-eqb, ne_eqb}
 use Rattle.lines.specs.Cut.{before, cut_rest, cut_lines, line_width, joined}
 
--- the width of a line, one byte at a time
-module _ (s : List ℕ) (i : ℕ) (h : i < length s) where
-  pub width-lf : get_or s i 0 ≡ 10 → line_width (drop i s) ≡ 1
-  unfolding line_width
-  width-lf e = rw (drop-cons s i 0 h) (simp (eq-eqb (get_or s i 0) 10 e))
+-- the width of the first line, by the place of the first LF
+abbrev pub is_lf : ℕ → Bool
+is_lf b = eqb b 10
 
-  pub width-other : (get_or s i 0 ≡ 10 → ⊥) → line_width (drop i s) ≡ 1 + line_width (drop (i + 1) s)
-  unfolding line_width
-  width-other e = rw (drop-cons s i 0 h, add-one) (simp (ne_eqb (get_or s i 0) 10 e) (omega arith))
+pub width-at : (k : ℕ) (s : List ℕ) → MatchOption (position_from is_lf k s) (length s ≡ line_width s) (λ i. i + 1 ≡ k + line_width s)
+unfolding line_width
+width-at k [] = refl
+width-at k (b ∷ s) = go (eqb b 10) (position_from is_lf (k + 1) s) (width-at (k + 1) s)
+  where
+    go : (t : Bool) (o : Option ℕ) → MatchOption o (length s ≡ line_width s) (λ i. i + 1 ≡ k + 1 + line_width s)
+        → MatchOption (cond t (Some k) o) (suc (length s) ≡ cond t 1 (suc (line_width s))) (λ i. i + 1 ≡ k + cond t 1 (suc (line_width s)))
+    go true o ih = refl
+    go false None ih = ap suc ih
+    go false (Some i) ih = omega arith
 
 pub width-end : (s : List ℕ) (i : ℕ) → length s ≤ i → line_width (drop i s) ≡ 0
 unfolding line_width
 width-end s i h = rw (drop_of_length-le s h)
+
+-- the bytes from a place on, as a part that ends with them
+pub part-rest : (s : List ℕ) (i : ℕ) → slice_range s i (length s) ≡ drop i s
+part-rest s i = take_all (length s - i) (drop i s) (rw (length-drop i s) (omega arith))
 
 -- lines cut and joined again
 joined-before : (b : ℕ) (ls : List (List ℕ)) → joined (before b ls) ≡ b ∷ joined ls

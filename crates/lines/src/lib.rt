@@ -9,12 +9,11 @@ ghost use Rattle.lines.specs.Cut.{line_width};
 pub fn line_end(s: &[u8], at: usize) -> usize
     ensures { result ≡ at + line_width (drop at s.now) }
 {
-    let mut i = at;
-    while i < s.len() {
-        if s[i] == b'\n' {
-            return i + 1;
-        }
-        i += 1;
+    let Some(rest) = s.get(at..) else {
+        return at;
+    };
+    match rest.iter().position(|&b| b == b'\n') {
+        Some(n) => at + n + 1,
+        None => s.len(),
     }
-    i
 }

@@ -1,10 +1,14 @@
 -- A number of 64 bits is looked at by its sign: the tests of the code are those of the definitions, and what 32 bits hold of it is itself
 -- where they can.
-use Prim.Native.Nat.{ℕ}
+use Prim.Native.Nat.{◌<◌, ℕ}
 use mathlib.Core.Path.{◌≡◌, refl, sym}
 use mathlib.Core.Bool.{◌&&◌, Bool, cond, false, true, true≢false}
 use native.Mathlib.Omega.{arith}
-use borrow.Author.Tests.{le-leb, le-ltb, leb-true, ltb-false, ltb-true, ne_eqb}
+use borrow.Author.Tests.{le-leb, le-ltb, leb-false, leb-true, lt-leb, ltb-false, ltb-true, ne_eqb}
+use Rattle.std.proofs.Common.{Err, Ok, Result}
+use Rattle.std.specs.Int.{FitsUnsignedBits, int_max, int_min}
+use Rattle.std.specs.Result.{OkIff, result_unwrap_or}
+use Rattle.digits.specs.Pick.{pick}
 use lib.Dec.{eqb, leb, ltb, T}
 use lib.IntN.{nat_abs, negsuc, pos, ℤ}
 use lib.Signed.{le_z, lt_z, mag, non_neg}
@@ -41,6 +45,31 @@ whole-fits (negsuc n) e = absurd (true≢false (sym e))
 pub signed-fits : (z : ℤ) → lt_z z low ≡ false → lt_z high z ≡ false → SFits w32 z
 signed-fits (pos n) a b = record { sfits = omega (arith, ltb-false 2147483647 n b) }
 signed-fits (negsuc n) a b = record { sfits = omega (arith, ltb-false 2147483647 n a) }
+
+-- What the code makes of a number: tried as one of 32 bits without sign, or moved to the nearest end.
+pub whole-tried : {E : Type 0} (z : ℤ) (r : Result ℕ E) → OkIff r (FitsUnsignedBits 32 z) (nat_abs z) → result_unwrap_or r most ≡ whole_of z
+unfolding whole_of is_whole
+whole-tried (pos n) (Ok x) h = rw (le-leb n most (omega (arith, h.0))) h.1
+whole-tried (negsuc n) (Ok x) h = absurd h.0
+whole-tried (pos n) (Err e) h = rw (lt-leb n most (go (leb n most) refl))
+  where
+    go : (t : Bool) → leb n most ≡ t → most < n
+    go true e = let k = leb-true n most e in absurd (h (omega arith))
+    go false e = leb-false n most e
+whole-tried (negsuc n) (Err e) h = refl
+
+pub clamped : (z : ℤ) → int_max low (int_min z high) ≡ signed_of z
+unfolding signed_of
+clamped (pos n) = go (ltb 2147483647 n)
+  where
+    go : (t : Bool) → int_max low (cond t high (pos n)) ≡ pick t high (pos n)
+    go true = refl
+    go false = refl
+clamped (negsuc n) = go (ltb 2147483647 n)
+  where
+    go : (t : Bool) → cond t low (negsuc n) ≡ pick t low (negsuc n)
+    go true = refl
+    go false = refl
 
 -- What is held of a value that fits is the value.
 pub whole_back : (n : ℕ) → leb n most ≡ true → whole_of (pos n) ≡ n

@@ -11,10 +11,7 @@ use address::Talker;
 pub fn at(numbers: &[i64], i: usize) -> i64
     ensures { result ≡ get_or numbers.now i (pos 0) }
 {
-    if i < numbers.len() {
-        return numbers[i];
-    }
-    0
+    numbers.get(i).copied().unwrap_or(0)
 }
 
 // Stores all of `values` at the start of `out` and answers whether there was room; where there was none,
@@ -26,16 +23,12 @@ pub fn lay(out: &mut [i64], values: &[i64]) -> bool
     if out.len() < values.len() {
         return false;
     }
-    let mut i: usize = 0;
-    while i < values.len() {
-        out[i] = values[i];
-        i += 1;
-    }
+    out[..values.len()].copy_from_slice(values);
     true
 }
 
 // What a host is told of a line: 0 and its kind, or a refusal with its field; its numbers stand beside it.
-#[derive(Clone, Copy)]
+#[derive(Clone, Copy, PartialEq, Eq, Debug)]
 pub struct Told {
     pub no: u8,
     pub kind: u32,
@@ -81,37 +74,28 @@ fn marked(mark: i64) -> bool
 fn is_mark(n: i64) -> bool
     ensures { result ≡ is_mark n }
 {
-    (0 <= n) & (n <= 1)
+    0 <= n && n <= 1
 }
 
 // Whether a value without sign of 32 bits holds a number.
 fn is_whole(n: i64) -> bool
     ensures { result ≡ is_whole n }
 {
-    (0 <= n) & (n <= 4294967295)
+    0 <= n && n <= 4294967295
 }
 
 // The value without sign that is held of a number: itself, or 4294967295 where it does not fit.
 fn whole(n: i64) -> u32
     ensures { result ≡ whole_of n }
 {
-    if is_whole(n) {
-        return n as u32;
-    }
-    4294967295
+    u32::try_from(n).unwrap_or(u32::MAX)
 }
 
 // The value with a sign that is held of a number: itself, or the nearest end of 32 bits.
 fn signed(n: i64) -> i32
     ensures { result ≡ signed_of n }
 {
-    if n < -2147483648 {
-        return -2147483648;
-    }
-    if 2147483647 < n {
-        return 2147483647;
-    }
-    n as i32
+    n.clamp(i64::from(i32::MIN), i64::from(i32::MAX)) as i32
 }
 
 // The same of the number at a place: whether it is the mark of a value that is there, whether it is a mark, whether
@@ -146,7 +130,8 @@ pub fn signed_at(numbers: &[i64], i: usize) -> i32
     signed(at(numbers, i))
 }
 
-// The number of a talker, from 0 in the order of document 01.
+// The number of a talker, from 0 in the order of document 01. Hosts are handed it; a `From` would have to stand in crate address, away
+// from the other numbers of a host.
 pub fn talker_number(t: Talker) -> u32
     ensures { result ≡ talker_number t }
 {
@@ -163,17 +148,11 @@ pub fn talker_number(t: Talker) -> u32
 pub fn talker_of(n: u32) -> Talker
     ensures { result ≡ talker_of n }
 {
-    if n == 0 {
-        return Talker::Gp;
+    match n {
+        0 => Talker::Gp,
+        1 => Talker::Gl,
+        2 => Talker::Ga,
+        3 => Talker::Gq,
+        _ => Talker::Gn,
     }
-    if n == 1 {
-        return Talker::Gl;
-    }
-    if n == 2 {
-        return Talker::Ga;
-    }
-    if n == 3 {
-        return Talker::Gq;
-    }
-    Talker::Gn
 }

@@ -12,17 +12,14 @@ ghost use Rattle.phrases.specs.Phrases.{place_words, signed_text, variation_word
 fn pick<'a>(first: bool, s: &'a [u8], t: &'a [u8]) -> &'a [u8]
     ensures { result.now ≡ either first s.now t.now }
 {
-    if first {
-        return s;
-    }
-    t
+    if first { s } else { t }
 }
 
 // `1 hour`, `13 hours`
 fn put_counted<'a>(out: &mut [u8], at: usize, n: u32, one: &'a [u8], many: &'a [u8]) -> usize
     ensures { Puts (held at out.old) (counted n one.now many.now) (held result out.new) }
 {
-    let a = text::put_number(out, at, n as u64);
+    let a = text::put_number(out, at, u64::from(n));
     put::put_bytes(out, a, pick(n == 1, one, many))
 }
 
@@ -78,7 +75,7 @@ fn put_angle(out: &mut [u8], at: usize, v: u32) -> usize
     ensures { Puts (held at out.old) (angle_words v) (held result out.new) }
 {
     let a0 = put_counted(out, at, v / 600000, b" degree ", b" degrees ");
-    let a1 = text::put_number(out, a0, (v / 10000 % 60) as u64);
+    let a1 = text::put_number(out, a0, u64::from(v / 10000 % 60));
     let a2 = put::put(out, a1, b'.');
     put::put_four(out, a2, v % 10000)
 }
@@ -117,16 +114,12 @@ fn put_variation(out: &mut [u8], at: usize, z: i32) -> usize
 fn put_signed(out: &mut [u8], at: usize, f: u8, z: i32) -> usize
     ensures { Puts (held at out.old) (signed_text f z) (held result out.new) }
 {
-    if f == b'h' {
-        return put_height(out, at, z);
+    match f {
+        b'h' => put_height(out, at, z),
+        b'v' => put_variation(out, at, z),
+        b'z' => put_zone(out, at, z),
+        _ => at,
     }
-    if f == b'v' {
-        return put_variation(out, at, z);
-    }
-    if f == b'z' {
-        return put_zone(out, at, z);
-    }
-    at
 }
 
 // The value that stands first in `numbers`, by the letter of its form: of one number, a position of two, or a date of
@@ -135,24 +128,17 @@ pub fn put_measure(out: &mut [u8], at: usize, f: u8, numbers: &[i64]) -> usize
     ensures { Puts (held at out.old) (measure_text f numbers.now) (held result out.new) }
 {
     let u = numbers::whole_at(numbers, 0);
-    if f == b'n' {
-        return text::put_number(out, at, u as u64);
-    }
-    if f == b'k' {
-        return put::put_number(out, at, u);
-    }
-    if f == b't' {
-        return put_clock(out, at, u);
-    }
-    if f == b'd' {
-        let v = numbers::whole_at(numbers, 1);
-        let w = numbers::whole_at(numbers, 2);
-        return put_date(out, at, u, v, w);
-    }
     let z = numbers::signed_at(numbers, 0);
-    if f == b'p' {
-        let lon = numbers::signed_at(numbers, 1);
-        return put_place(out, at, z, lon);
+    match f {
+        b'n' => text::put_number(out, at, u64::from(u)),
+        b'k' => put::put_number(out, at, u),
+        b't' => put_clock(out, at, u),
+        b'd' => {
+            let month = numbers::whole_at(numbers, 1);
+            let year = numbers::whole_at(numbers, 2);
+            put_date(out, at, u, month, year)
+        }
+        b'p' => put_place(out, at, z, numbers::signed_at(numbers, 1)),
+        _ => put_signed(out, at, f, z),
     }
-    put_signed(out, at, f, z)
 }

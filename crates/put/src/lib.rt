@@ -23,22 +23,17 @@ fn copy(out: &mut [u8], at: usize, s: &[u8]) -> usize
     requires { at + length s.now ≤ length out.old }
     ensures { Puts (held at out.old) s.now (held result out.new) }
 {
-    let mut i: usize = 0;
-    while i < s.len() {
-        out[at + i] = s[i];
-        i += 1;
-    }
-    at + i
+    let end = at + s.len();
+    out[at..end].copy_from_slice(s);
+    end
 }
 
 fn put_each(out: &mut [u8], at: usize, s: &[u8]) -> usize
     ensures { Puts (held at out.old) s.now (held result out.new) }
 {
     let mut place = at;
-    let mut i: usize = 0;
-    while i < s.len() {
-        place = put(out, place, s[i]);
-        i += 1;
+    for b in s {
+        place = put(out, place, *b);
     }
     place
 }
@@ -46,10 +41,8 @@ fn put_each(out: &mut [u8], at: usize, s: &[u8]) -> usize
 pub fn put_bytes(out: &mut [u8], at: usize, s: &[u8]) -> usize
     ensures { Puts (held at out.old) s.now (held result out.new) }
 {
-    if s.len() <= out.len() {
-        if at <= out.len() - s.len() {
-            return copy(out, at, s);
-        }
+    if s.len() <= out.len() && at <= out.len() - s.len() {
+        return copy(out, at, s);
     }
     put_each(out, at, s)
 }
@@ -73,12 +66,10 @@ pub fn put_two(out: &mut [u8], at: usize, v: u32) -> usize
 {
     let tens = digit(v / 10);
     let units = digit(v);
-    if 2 <= out.len() {
-        if at <= out.len() - 2 {
-            out[at] = tens;
-            out[at + 1] = units;
-            return at + 2;
-        }
+    if 2 <= out.len() && at <= out.len() - 2 {
+        out[at] = tens;
+        out[at + 1] = units;
+        return at + 2;
     }
     let a = put(out, at, tens);
     put(out, a, units)

@@ -87,7 +87,7 @@ fn put_quoted(out: &mut [u8], at: usize, s: &[u8]) -> usize
 fn put_byte(out: &mut [u8], at: usize, b: u8) -> usize
     ensures { Puts (held at out.old) (byte_text b) (held result out.new) }
 {
-    if (b' ' <= b) & (b <= b'~') {
+    if b' ' <= b && b <= b'~' {
         let a0 = put::put(out, at, b'\'');
         let a1 = put::put(out, a0, b);
         return put::put(out, a1, b'\'');
@@ -100,11 +100,7 @@ fn put_byte(out: &mut [u8], at: usize, b: u8) -> usize
 fn byte_at(line: &[u8], n: usize) -> u8
     ensures { result ≡ get_or line.now (n - 1) 0 }
 {
-    let i = if n == 0 { 0 } else { n - 1 };
-    if i < line.len() {
-        return line[i];
-    }
-    0
+    line.get(n.saturating_sub(1)).copied().unwrap_or(0)
 }
 
 fn put_place(out: &mut [u8], at: usize, line: &[u8], f: Flaw) -> usize
@@ -185,9 +181,7 @@ fn field_of(line: &[u8], n: usize) -> &[u8]
     ensures { result.now ≡ field_bytes line.now n }
 {
     let f = fields::field_at(line, n);
-    let start = f.start;
-    let end = f.end;
-    &line[start..end]
+    &line[f.start..f.end]
 }
 
 // `'555.61' in field 2; required: latitude, ddmm.mmmm up to 9000.0000, or empty`
@@ -209,20 +203,12 @@ fn put_wrong(out: &mut [u8], at: usize, line: &[u8], field: usize) -> usize
 pub fn put_reason(out: &mut [u8], at: usize, line: &[u8], no: u8, field: usize) -> usize
     ensures { Puts (held at out.old) (reason_text line.now no field) (held result out.new) }
 {
-    if no == 1 {
-        return put_flaw(out, at, line, line_flaw::flaw_of(line));
+    match no {
+        1 => put_flaw(out, at, line, line_flaw::flaw_of(line)),
+        2 => put_digits(out, at, body_of(line)),
+        3 => put_unknown(out, at, body_of(line)),
+        4 => put_count(out, at, body_of(line)),
+        5 => put_wrong(out, at, line, field),
+        _ => words::put_refusal(out, at, no),
     }
-    if no == 2 {
-        return put_digits(out, at, body_of(line));
-    }
-    if no == 3 {
-        return put_unknown(out, at, body_of(line));
-    }
-    if no == 4 {
-        return put_count(out, at, body_of(line));
-    }
-    if no == 5 {
-        return put_wrong(out, at, line, field);
-    }
-    words::put_refusal(out, at, no)
 }

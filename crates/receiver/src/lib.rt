@@ -3,7 +3,7 @@
 
 pub mod state;
 
-ghost use Rattle.std.specs.Prelude.{cond, ◌≡◌};
+ghost use Rattle.std.specs.Prelude.{◌≡◌};
 ghost use Rattle.frame.specs.Written.{refused};
 ghost use Rattle.sentence.specs.Lines.{read_line};
 ghost use Rattle.receiver.specs.Command.{after_datum, after_masks, after_port, code_reply, datum_reply, datum_told, Does, handed_over};
@@ -59,16 +59,8 @@ pub struct Done {
 fn hand_over(written: Written, old: Settings, new: Settings) -> Done
     ensures { result ≡ handed_over written old new }
 {
-    if written.no == 0 {
-        return Done {
-            written,
-            settings: new,
-        };
-    }
-    Done {
-        written,
-        settings: old,
-    }
+    let settings = if written.no == 0 { new } else { old };
+    Done { written, settings }
 }
 
 fn refuse(s: Settings, no: u8, line: usize, field: usize) -> Done
@@ -80,104 +72,84 @@ fn refuse(s: Settings, no: u8, line: usize, field: usize) -> Done
     }
 }
 
+// The port that a command names, or the one that it arrived on.
 fn named_port(arrival: u32, r: PortAsked) -> u32
     ensures { result ≡ named_port arrival r }
 {
-    if r.port.there {
-        return r.port.value;
-    }
-    arrival
-}
-
-fn after_port(s: Settings, arrival: u32, r: PortAsked) -> Settings
-    ensures { result ≡ after_port s arrival r }
-{
-    if !r.rate.there {
-        return s;
-    }
-    let port = Port {
-        rate: r.rate.value,
-        protocol: r.protocol.value,
-        mask: r.mask.value,
-    };
-    state::with_port(s, named_port(arrival, r), port)
-}
-
-fn port_told(s: Settings, n: u32) -> PortTold
-    ensures { result ≡ port_told s n }
-{
-    let port = state::port_of(s, n);
-    PortTold {
-        port: n,
-        rate: port.rate,
-        protocol: port.protocol,
-        mask: port.mask,
-    }
-}
-
-fn after_datum(s: Settings, r: DatumAsked) -> Settings
-    ensures { result ≡ after_datum s r }
-{
-    if !r.datum.there {
-        return s;
-    }
-    let first = s.first;
-    let second = s.second;
-    Settings {
-        first,
-        second,
-        datum: r.datum.value,
-        zone: r.zone.minutes,
-        gps: s.gps,
-        glonass: s.glonass,
-        code: s.code,
-    }
-}
-
-fn datum_told(s: Settings) -> DatumTold
-    ensures { result ≡ datum_told s }
-{
-    DatumTold {
-        datum: s.datum,
-        zone: s.zone,
-    }
-}
-
-// A mask that is there, or the old one.
-fn mask_or(there: bool, mask: u32, old: u32) -> u32
-    ensures { result ≡ cond there mask old }
-{
-    if there {
-        return mask;
-    }
-    old
-}
-
-fn after_masks(s: Settings, r: MasksAsked) -> Settings
-    ensures { result ≡ after_masks s r }
-{
-    let first = s.first;
-    let second = s.second;
-    Settings {
-        first,
-        second,
-        datum: s.datum,
-        zone: s.zone,
-        gps: mask_or(r.gps.there, r.gps.value, s.gps),
-        glonass: mask_or(r.glonass.there, r.glonass.value, s.glonass),
-        code: s.code,
-    }
+    if r.port.there { r.port.value } else { arrival }
 }
 
 impl Settings {
+    fn after_port(self, arrival: u32, r: PortAsked) -> Settings
+        ensures { result ≡ after_port self arrival r }
+    {
+        if !r.rate.there {
+            return self;
+        }
+        let port = Port {
+            rate: r.rate.value,
+            protocol: r.protocol.value,
+            mask: r.mask.value,
+        };
+        state::with_port(self, named_port(arrival, r), port)
+    }
+
+    fn port_told(self, n: u32) -> PortTold
+        ensures { result ≡ port_told self n }
+    {
+        let port = state::port_of(self, n);
+        PortTold {
+            port: n,
+            rate: port.rate,
+            protocol: port.protocol,
+            mask: port.mask,
+        }
+    }
+
+    fn after_datum(self, r: DatumAsked) -> Settings
+        ensures { result ≡ after_datum self r }
+    {
+        if !r.datum.there {
+            return self;
+        }
+        Settings {
+            datum: r.datum.value,
+            zone: r.zone.minutes,
+            ..self
+        }
+    }
+
+    fn datum_told(self) -> DatumTold
+        ensures { result ≡ datum_told self }
+    {
+        DatumTold {
+            datum: self.datum,
+            zone: self.zone,
+        }
+    }
+
+    fn after_masks(self, r: MasksAsked) -> Settings
+        ensures { result ≡ after_masks self r }
+    {
+        Settings {
+            gps: if r.gps.there { r.gps.value } else { self.gps },
+            glonass: if r.glonass.there {
+                r.glonass.value
+            } else {
+                self.glonass
+            },
+            ..self
+        }
+    }
+
     // PIRPR: sets the named port, or the one that the command arrived on, or, with no rate, asks about it. The
     // reply is PIRPA of that port. Refused: 5 at the first value that is out of its range after it, 8 where
     // `out` is shorter than the reply.
     fn port(self, arrival: u32, r: PortAsked, out: &mut [u8]) -> Done
         ensures { Does self (port_reply (after_port self arrival r) (named_port arrival r)) out.old result out.new }
     {
-        let new = after_port(self, arrival, r);
-        let told = port_told(new, named_port(arrival, r));
+        let new = self.after_port(arrival, r);
+        let told = new.port_told(named_port(arrival, r));
         let written = kind_pir_port::reply::write(out, told);
         hand_over(written, self, new)
     }
@@ -186,8 +158,8 @@ impl Settings {
     fn place(self, r: DatumAsked, out: &mut [u8]) -> Done
         ensures { Does self (datum_reply (after_datum self r)) out.old result out.new }
     {
-        let new = after_datum(self, r);
-        let told = datum_told(new);
+        let new = self.after_datum(r);
+        let told = new.datum_told();
         let written = kind_pir_datum::reply::write(out, told);
         hand_over(written, self, new)
     }
@@ -196,7 +168,7 @@ impl Settings {
     fn satellites(self, r: MasksAsked, out: &mut [u8]) -> Done
         ensures { Does self (masks_reply (after_masks self r)) out.old result out.new }
     {
-        let new = after_masks(self, r);
+        let new = self.after_masks(r);
         let told = MasksTold {
             gps: new.gps,
             glonass: new.glonass,
@@ -225,8 +197,7 @@ fn take_line(s: Settings, arrival: u32, line: &[u8], out: &mut [u8]) -> Done
     if told.no != 0 {
         return refuse(s, told.no, 1, told.field);
     }
-    let kind = told.kind;
-    match kind {
+    match told.kind {
         8 => s.port(arrival, kind_pir_port::command::at(&n), out),
         9 => s.place(kind_pir_datum::command::at(&n), out),
         10 => s.satellites(kind_pir_masks::command::at(&n), out),
@@ -244,11 +215,10 @@ fn take_line(s: Settings, arrival: u32, line: &[u8], out: &mut [u8]) -> Done
 pub fn step(s: Settings, arrival: u32, line: &[u8], out: &mut [u8]) -> Done
     ensures { Does s (outcome_of s arrival line.now) out.old result out.new }
 {
-    if !((arrival < 2) & state::are_good(s)) {
+    if 2 <= arrival || !state::are_good(s) {
         return refuse(s, 5, 0, 0);
     }
-    let port = state::port_of(s, arrival);
-    if port.protocol != 4 {
+    if state::port_of(s, arrival).protocol != 4 {
         return refuse(s, 10, 1, 0);
     }
     take_line(s, arrival, line, out)

@@ -28,47 +28,39 @@ pub fn at_start() -> Settings
 pub fn port_of(s: Settings, n: u32) -> Port
     ensures { result ≡ port_of s n }
 {
-    if n == 0 {
-        return s.first;
-    }
-    s.second
+    if n == 0 { s.first } else { s.second }
 }
 
 // The settings with one port changed.
-pub fn with_port(mut s: Settings, n: u32, p: Port) -> Settings
+pub fn with_port(s: Settings, n: u32, p: Port) -> Settings
     ensures { result ≡ with_port s n p }
 {
     if n == 0 {
-        s.first = p;
+        Settings { first: p, ..s }
     } else {
-        s.second = p;
+        Settings { second: p, ..s }
     }
-    s
 }
 
 fn is_port_good(p: Port) -> bool
     ensures { result ≡ port_good p }
 {
-    let rate = form::range::within(p.rate, 1200, 115200) == 0;
-    let protocol = form::range::within(p.protocol, 0, 4) == 0;
-    let mask = form_mask::range::port_mask(true, p.mask) == 0;
-    rate & (protocol & mask)
+    form::range::within(p.rate, 1200, 115200) == 0
+        && form::range::within(p.protocol, 0, 4) == 0
+        && form_mask::range::port_mask(true, p.mask) == 0
 }
 
 // Whether every setting is in its range.
 pub fn are_good(s: Settings) -> bool
     ensures { result ≡ settings_good s }
 {
-    let one = s.first;
-    let two = s.second;
-    let first = is_port_good(one);
-    let second = is_port_good(two);
-    let datum = form::range::within(s.datum, 0, 4) == 0;
-    let zone = form::range::signed(true, s.zone, 839) == 0;
-    let gps = form::range::within(s.gps, 0, 4294967295) == 0;
-    let glonass = form::range::within(s.glonass, 0, 16777215) == 0;
-    let code = form::range::within(s.code, 0, 255) == 0;
-    first & (second & (datum & (zone & (gps & (glonass & code)))))
+    is_port_good(s.first)
+        && is_port_good(s.second)
+        && form::range::within(s.datum, 0, 4) == 0
+        && form::range::signed(true, s.zone, 839) == 0
+        && form::range::within(s.gps, 0, 4294967295) == 0
+        && form::range::within(s.glonass, 0, 16777215) == 0
+        && form::range::within(s.code, 0, 255) == 0
 }
 
 // How many satellites each mask allows. Refused: 5 with line 0 where a setting is out of its range.
@@ -88,7 +80,7 @@ pub fn counts(s: Settings) -> Counts
         no: 0,
         line: 0,
         field: 0,
-        gps: u32::count_ones(s.gps),
-        glonass: u32::count_ones(s.glonass),
+        gps: s.gps.count_ones(),
+        glonass: s.glonass.count_ones(),
     }
 }

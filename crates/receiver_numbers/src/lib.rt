@@ -33,7 +33,7 @@ pub fn lay(out: &mut [i64], s: Settings) -> bool
 pub fn are_said(numbers: &[i64]) -> bool
     ensures { result ≡ said numbers.now }
 {
-    (11 <= numbers.len()) & numbers::is_whole_at(numbers, 8)
+    11 <= numbers.len() && numbers::is_whole_at(numbers, 8)
 }
 
 // The settings that numbers say; one past their end is taken as 0.

@@ -12,15 +12,15 @@ use numbers::Told;
 pub fn next(n: u64) -> u64
     ensures { result ≡ min (n + 1) 18446744073709551615 }
 {
-    if n < u64::MAX { n + 1 } else { n }
+    n.saturating_add(1)
 }
 
 // The address of a line, or `-` where it has none that is known.
 fn put_address(out: &mut [u8], at: usize, no: u8, line: &[u8]) -> usize
     ensures { Puts (held at out.old) (address_text no line.now) (held result out.new) }
 {
-    if (0 < no) & (no < 4) {
-        return put::put(out, at, 45);
+    if 0 < no && no < 4 {
+        return put::put(out, at, b'-');
     }
     if line.len() < 6 {
         return at;
@@ -36,8 +36,8 @@ fn put_answer(out: &mut [u8], at: usize, no: u8, field: usize) -> usize
         return put::put_bytes(out, at, b"ok");
     }
     let a1 = put::put_bytes(out, at, b"refused ");
-    let a2 = text::put_number(out, a1, no as u64);
-    let a3 = put::put(out, a2, 32);
+    let a2 = text::put_number(out, a1, u64::from(no));
+    let a3 = put::put(out, a2, b' ');
     text::put_number(out, a3, field as u64)
 }
 
@@ -45,20 +45,14 @@ fn put_answer(out: &mut [u8], at: usize, no: u8, field: usize) -> usize
 fn front(numbers: &[i64], n: usize) -> &[i64]
     ensures { result.now ≡ take n numbers.now }
 {
-    if n < numbers.len() {
-        return &numbers[0..n];
-    }
-    numbers
+    &numbers[..n.min(numbers.len())]
 }
 
 // The numbers behind the first `n`; none where there are no more.
 fn behind(numbers: &[i64], n: usize) -> &[i64]
     ensures { result.now ≡ drop n numbers.now }
 {
-    if n < numbers.len() {
-        return &numbers[n..];
-    }
-    &numbers[0..0]
+    &numbers[n.min(numbers.len())..]
 }
 
 // The numbers of a record of a kind that the listing shows: all but the talker's.
@@ -77,10 +71,8 @@ fn put_numbers(out: &mut [u8], at: usize, numbers: &[i64]) -> usize
     ensures { Puts (held at out.old) (numbers_text numbers.now) (held result out.new) }
 {
     let mut place = at;
-    let mut i: usize = 0;
-    while i < numbers.len() {
-        place = text::put_int(out, place, numbers[i]);
-        i += 1;
+    for &z in numbers {
+        place = text::put_int(out, place, z);
     }
     place
 }
@@ -109,10 +101,10 @@ pub fn put_row(
         (told_row number line.now told numbers.now asked) (held result out.new) }
 {
     let a1 = text::put_number(out, at, number);
-    let a2 = put::put(out, a1, 32);
+    let a2 = put::put(out, a1, b' ');
     let a3 = put_address(out, a2, told.no, line);
-    let a4 = put::put(out, a3, 32);
+    let a4 = put::put(out, a3, b' ');
     let a5 = put_answer(out, a4, told.no, told.field);
     let a6 = put_asked(out, a5, asked, told.kind, numbers);
-    put::put(out, a6, 10)
+    put::put(out, a6, b'\n')
 }

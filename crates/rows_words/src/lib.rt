@@ -13,9 +13,9 @@ fn put_place(out: &mut [u8], at: usize, offset: u64, row: u64) -> usize
     ensures { Puts (held at out.old) (place_text offset row) (held result out.new) }
 {
     let a1 = text::put_number(out, at, offset);
-    let a2 = put::put(out, a1, 32);
+    let a2 = put::put(out, a1, b' ');
     let a3 = text::put_number(out, a2, row);
-    put::put(out, a3, 32)
+    put::put(out, a3, b' ')
 }
 
 // The row that says why a line was refused; nothing where it was not.
@@ -27,7 +27,7 @@ fn put_reason(out: &mut [u8], at: usize, line: &[u8], no: u8, field: usize) -> u
     }
     let a0 = put::put_bytes(out, at, b"    ");
     let a1 = reasons::put_reason(out, a0, line, no, field);
-    put::put(out, a1, 10)
+    put::put(out, a1, b'\n')
 }
 
 // The row of line `number` in words, of which `told` was told: behind the place, with `offset` bytes before it in row `row` of the

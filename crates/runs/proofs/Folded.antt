@@ -1,8 +1,8 @@
 -- The step, carried from line to line, cuts as the definition does: what it knows of the open run is how many lines that has and what its
 -- first line announced.
 use Prim.Native.Nat.{◌+◌, ℕ}
-use mathlib.Core.Bool.{◌&&◌, ◌||◌, Bool, false, true}
-use mathlib.Core.List.{[], ◌++◌, ◌∷◌, append_assoc, append-nil, List}
+use mathlib.Core.Bool.{◌||◌, Bool, false, true}
+use mathlib.Core.List.{[], ◌++◌, ◌∷◌, List}
 use mathlib.Core.Path.{◌∙◌, ◌≡◌, ap, ap₂, refl, sym}
 use native.Mathlib.Omega.{arith}
 use lib.Dec.{eqb, leb, ltb}
@@ -12,8 +12,8 @@ use Rattle.digits.specs.Pick.{pick}
 use Rattle.sentence.specs.Lines.{read_line}
 use Rattle.runs.specs.declared.Open.{Open}
 use Rattle.runs.specs.declared.Says.{Says}
-use Rattle.runs.specs.declared.Says.TheVariants.{Numbered, Other}
-use Rattle.runs.specs.Runs.{closed, cut_at, ends_with, grown, Line, Run, runs_from, runs_of, says_of}
+use Rattle.std.specs.Prelude.{None, Option, Some}
+use Rattle.runs.specs.Runs.{closed, cut_at, grown, Line, Run, runs_from, runs_of, says_of}
 use Rattle.runs.specs.Step.{closed_if, joined_to, none_open, open_of, run_for, runs_by, step_of, step_on, stepped}
 
 -- A run is open where it has lines.
@@ -56,17 +56,17 @@ module _ (by : Open → Run → List Run) (go : ℕ → Run → List Run)
           by_end false = rw same (ap (λ (x : List Run). closed_if before old ++ x)
               (ap (λ (n : ℕ). by (open_of n last) new) (sym (length-append held (l ∷ []))) ∙ ih last new))
 
-  step-on : (last : ℕ) (held : Run) (s : Says) → step_on (step_of (open_of (length held) last) s) held l by ≡ cut_at last held l s go
+  step-on : (last : ℕ) (held : Run) (s : Option Says) → step_on (step_of (open_of (length held) last) s) held l by ≡ cut_at last held l s go
   unfolding run_for
-  step-on last held Other = ap₂ (λ (x y : List Run). x ++ y) (closed-if held) (ih 0 [])
-  step-on last [] (Numbered k n) = put_on false [] [] n k refl
-  step-on last (h ∷ hs) (Numbered k n) =
-      rw (lt-ltb 0 (length (h ∷ hs)) (omega arith), ne_eqb (length (h ∷ hs)) 0 (λ z. omega (arith, z))) (one (eqb k 1))
+  step-on last held None = ap₂ (λ (x y : List Run). x ++ y) (closed-if held) (ih 0 [])
+  step-on last [] (Some s) = put_on false [] [] s.last s.number refl
+  step-on last (h ∷ hs) (Some s) =
+      rw (lt-ltb 0 (length (h ∷ hs)) (omega arith), ne_eqb (length (h ∷ hs)) 0 (λ z. omega (arith, z))) (one (eqb s.number 1))
     where
-      one : (b : Bool) → step_on (joined_to b (pick b (open_of 0 n) (open_of (length (h ∷ hs)) last)) k) (h ∷ hs) l by
-          ≡ pick b (closed (h ∷ hs) ++ grown n (l ∷ []) k go) (grown last ((h ∷ hs) ++ (l ∷ [])) k go)
-      one true = put_on true (h ∷ hs) [] n k refl
-      one false = put_on false (h ∷ hs) (h ∷ hs) last k refl
+      one : (b : Bool) → step_on (joined_to b (pick b (open_of 0 s.last) (open_of (length (h ∷ hs)) last)) s.number) (h ∷ hs) l by
+          ≡ pick b (closed (h ∷ hs) ++ grown s.last (l ∷ []) s.number go) (grown last ((h ∷ hs) ++ (l ∷ [])) s.number go)
+      one true = put_on true (h ∷ hs) [] s.last s.number refl
+      one false = put_on false (h ∷ hs) (h ∷ hs) last s.number refl
 
 pub folded_from : (last : ℕ) (held : Run) (ls : List Line) → runs_by (open_of (length held) last) held ls ≡ runs_from last held ls
 unfolding runs_by runs_from

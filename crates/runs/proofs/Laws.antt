@@ -1,5 +1,5 @@
 -- The cut loses no line and adds none, and a run has one to nine lines: both by going along the lines, whatever is open.
-use Prim.Native.Nat.{◌+◌, ◌≤◌, suc, ℕ}
+use Prim.Native.Nat.{◌≤◌, ℕ}
 use mathlib.Core.Bool.{◌||◌, Bool, false, true}
 use mathlib.Core.List.{[], ◌++◌, ◌∷◌, append_assoc, append-nil, List}
 use mathlib.Core.Path.{◌∙◌, ◌≡◌, ap, refl, sym}
@@ -10,7 +10,7 @@ use borrow.Author.Tests.{leb-false}
 use Rattle.digits.specs.Pick.{pick}
 use Rattle.sentence.specs.Lines.{read_line}
 use Rattle.runs.specs.declared.Says.{Says}
-use Rattle.runs.specs.declared.Says.TheVariants.{Numbered, Other}
+use Rattle.std.specs.Prelude.{None, Option, Some}
 use Rattle.runs.specs.Runs.{AllSized, closed, cut_at, ends_with, grown, gsv_lines, Line, lines_of, Run, runs_from, says_of, with_gsv}
 
 closed-lines : (held : Run) (rs : List Run) → lines_of (closed held ++ rs) ≡ held ++ lines_of rs
@@ -27,14 +27,16 @@ module _ (go : ℕ → Run → List Run) (rest : List Line) (ih : (n : ℕ) (hel
       by true = ap (λ (x : List Line). run ++ x) (ih 0 [])
       by false = ih last run
 
-  cut-lines : (last : ℕ) (held : Run) (l : Line) (s : Says) → lines_of (cut_at last held l s go) ≡ held ++ with_gsv s l rest
-  cut-lines last held l Other = closed-lines held (go 0 []) ∙ ap (λ (x : List Line). held ++ x) (ih 0 [])
-  cut-lines last held l (Numbered k n) = by (eqb (length held) 0 || eqb k 1)
+  cut-lines : (last : ℕ) (held : Run) (l : Line) (s : Option Says) → lines_of (cut_at last held l s go) ≡ held ++ with_gsv s l rest
+  cut-lines last held l None = closed-lines held (go 0 []) ∙ ap (λ (x : List Line). held ++ x) (ih 0 [])
+  cut-lines last held l (Some s) = by (eqb (length held) 0 || eqb s.number 1)
     where
       by : (b : Bool)
-          → lines_of (pick b (closed held ++ grown n (l ∷ []) k go) (grown last (held ++ (l ∷ [])) k go)) ≡ held ++ (l ∷ rest)
-      by true = closed-lines held (grown n (l ∷ []) k go) ∙ ap (λ (x : List Line). held ++ x) (grown-lines n (l ∷ []) k)
-      by false = grown-lines last (held ++ (l ∷ [])) k ∙ append_assoc held (l ∷ []) rest
+          → lines_of (pick b (closed held ++ grown s.last (l ∷ []) s.number go) (grown last (held ++ (l ∷ [])) s.number go))
+          ≡ held ++ (l ∷ rest)
+      by true = closed-lines held (grown s.last (l ∷ []) s.number go)
+          ∙ ap (λ (x : List Line). held ++ x) (grown-lines s.last (l ∷ []) s.number)
+      by false = grown-lines last (held ++ (l ∷ [])) s.number ∙ append_assoc held (l ∷ []) rest
 
 -- The lines of the runs are those of the open one, then those that read as GSV.
 pub lines_from : (last : ℕ) (held : Run) (ls : List Line) → lines_of (runs_from last held ls) ≡ held ++ gsv_lines ls
@@ -57,15 +59,16 @@ module _ (go : ℕ → Run → List Run) (ih : (n : ℕ) (held : Run) → length
       by false true e = ((i, h), ih 0 [] (omega arith))
       by false false e = ih last run (omega (arith, leb-false 9 (length run) e))
 
-  cut-sized : (last : ℕ) (held : Run) (l : Line) (s : Says) → length held ≤ 8 → AllSized (cut_at last held l s go)
-  cut-sized last held l Other h = closed-sized held (omega (arith, h)) (go 0 []) (ih 0 [] (omega arith))
-  cut-sized last held l (Numbered k n) h = by (eqb (length held) 0 || eqb k 1)
+  cut-sized : (last : ℕ) (held : Run) (l : Line) (s : Option Says) → length held ≤ 8 → AllSized (cut_at last held l s go)
+  cut-sized last held l None h = closed-sized held (omega (arith, h)) (go 0 []) (ih 0 [] (omega arith))
+  cut-sized last held l (Some s) h = by (eqb (length held) 0 || eqb s.number 1)
     where
-      by : (b : Bool) → AllSized (pick b (closed held ++ grown n (l ∷ []) k go) (grown last (held ++ (l ∷ [])) k go))
-      by true = closed-sized held (omega (arith, h)) (grown n (l ∷ []) k go) (grown-sized n (l ∷ []) k (omega arith) (omega arith))
+      by : (b : Bool) → AllSized (pick b (closed held ++ grown s.last (l ∷ []) s.number go) (grown last (held ++ (l ∷ [])) s.number go))
+      by true = closed-sized held (omega (arith, h)) (grown s.last (l ∷ []) s.number go)
+          (grown-sized s.last (l ∷ []) s.number (omega arith) (omega arith))
       by false =
           let e = length-append held (l ∷ []) in
-          grown-sized last (held ++ (l ∷ [])) k (omega (arith, e)) (omega (arith, e, h))
+          grown-sized last (held ++ (l ∷ [])) s.number (omega (arith, e)) (omega (arith, e, h))
 
 pub sized-from : (last : ℕ) (held : Run) (ls : List Line) → length held ≤ 8 → AllSized (runs_from last held ls)
 unfolding runs_from

@@ -6,7 +6,7 @@ use mathlib.Core.List.{[], ◌++◌, ◌∷◌, append_assoc, List}
 use mathlib.Core.Option.{none}
 use mathlib.Core.Path.{◌∙◌, ◌≡◌, ap, refl, sym}
 use native.Mathlib.Omega.{arith}
-use lib.Dec.{eqb, leb}
+use lib.Dec.{eqb}
 use lib.ListN.{length, length-append}
 use borrow.Author.Tests.{eq-eqb, eqb-false, eqb-true, lt-leb, ne_eqb}
 use Rattle.digits.specs.Pick.{pick}
@@ -14,24 +14,22 @@ use Rattle.lines.specs.Cut.{cut_lines}
 use Rattle.lines.specs.Reader.{read_from, read_lines}
 use Rattle.address.specs.declared.Talker.{Talker}
 use Rattle.kind_gsv.specs.declared.Entry.{Entry}
-use Rattle.kind_gsv.specs.declared.Gsv.{Gsv}
 use Rattle.sentence.specs.Lines.{read_line}
-use Rattle.sentence.specs.Sentence.{Sentence}
-use Rattle.sky.specs.Group.{Answer, ended, group_of, lines_for, used_of, whole}
+use Rattle.sky.specs.Group.{ended, group_of, lines_for, used_of, whole}
 use Rattle.sky_laws.proofs.Took as T
 use Rattle.sky_laws.proofs.Took.{answer_from, first-line, next-line, no_whole, seen_so}
 use Rattle.sky_read.proofs.SoundLaws.{sound}
 use Rattle.runs.specs.declared.Says.{Says}
-use Rattle.runs.specs.declared.Says.TheVariants.{Numbered, Other}
+use Rattle.std.specs.Prelude.{None, Option, Some}
 use Rattle.runs.specs.Runs.{closed, cut_at, ends_with, grown, Line, Run, runs_from, runs_of, says_of}
 
 -- What line k of n satellites says.
-says-line : (u : Talker) (n k : ℕ) (b : List Entry) (l : Line) → T.Line u n k b l → says_of (read_line l) ≡ Numbered k (lines_for n)
+says-line : (u : Talker) (n k : ℕ) (b : List Entry) (l : Line) → T.Line u n k b l → says_of (read_line l) ≡ Some (record { number = k; last = lines_for n })
 says-line u n k b l x = ap says_of x.reads ∙ rw (x.line, x.lines)
 
 -- A line numbered 1 ends what is open; a later one goes on.
 module _ (last : ℕ) (held : Run) (l : Line) (go : ℕ → Run → List Run) where
-  cut-first : (s : Says) (n : ℕ) → s ≡ Numbered 1 n → cut_at last held l s go ≡ closed held ++ grown n (l ∷ []) 1 go
+  cut-first : (s : Option Says) (n : ℕ) → s ≡ Some (record { number = 1; last = n }) → cut_at last held l s go ≡ closed held ++ grown n (l ∷ []) 1 go
   cut-first s n e = rw e (by (eqb (length held) 0))
     where
       by : (b : Bool)
@@ -40,7 +38,7 @@ module _ (last : ℕ) (held : Run) (l : Line) (go : ℕ → Run → List Run) wh
       by true = refl
       by false = refl
 
-  cut_later : (s : Says) (k n : ℕ) → s ≡ Numbered k n → 1 ≤ length held → 2 ≤ k
+  cut_later : (s : Option Says) (k n : ℕ) → s ≡ Some (record { number = k; last = n }) → 1 ≤ length held → 2 ≤ k
       → cut_at last held l s go ≡ grown last (held ++ (l ∷ [])) k go
   cut_later s k n e h i = rw (e, ne_eqb (length held) 0 (λ z. omega (arith, z, h)), ne_eqb k 1 (λ z. omega (arith, z, i)))
 
@@ -139,16 +137,16 @@ module _ (go on : ℕ → Run → List Run) (rest : List Run) (ih : (n : ℕ) (o
       by true = ap (λ (r : List Run). run ∷ r) (ih 0 [])
       by false = ih last run
 
-  cut-then : (last : ℕ) (held : Run) (l : Line) (s : Says) → cut_at last held l s go ≡ cut_at last held l s on ++ rest
-  cut-then last held l Other = ap (λ (r : List Run). closed held ++ r) (ih 0 []) ∙ sym (append_assoc (closed held) (on 0 []) rest)
-  cut-then last held l (Numbered k n) = by (eqb (length held) 0 || eqb k 1)
+  cut-then : (last : ℕ) (held : Run) (l : Line) (s : Option Says) → cut_at last held l s go ≡ cut_at last held l s on ++ rest
+  cut-then last held l None = ap (λ (r : List Run). closed held ++ r) (ih 0 []) ∙ sym (append_assoc (closed held) (on 0 []) rest)
+  cut-then last held l (Some s) = by (eqb (length held) 0 || eqb s.number 1)
     where
       by : (b : Bool)
-          → pick b (closed held ++ grown n (l ∷ []) k go) (grown last (held ++ (l ∷ [])) k go)
-          ≡ pick b (closed held ++ grown n (l ∷ []) k on) (grown last (held ++ (l ∷ [])) k on) ++ rest
-      by true = ap (λ (r : List Run). closed held ++ r) (grown-then n (l ∷ []) k)
-          ∙ sym (append_assoc (closed held) (grown n (l ∷ []) k on) rest)
-      by false = grown-then last (held ++ (l ∷ [])) k
+          → pick b (closed held ++ grown s.last (l ∷ []) s.number go) (grown last (held ++ (l ∷ [])) s.number go)
+          ≡ pick b (closed held ++ grown s.last (l ∷ []) s.number on) (grown last (held ++ (l ∷ [])) s.number on) ++ rest
+      by true = ap (λ (r : List Run). closed held ++ r) (grown-then s.last (l ∷ []) s.number)
+          ∙ sym (append_assoc (closed held) (grown s.last (l ∷ []) s.number on) rest)
+      by false = grown-then last (held ++ (l ∷ [])) s.number
 
 before : (ls ms : List Line) (rest : List Run) → ((last : ℕ) (held : Run) → runs_from last held ms ≡ closed held ++ rest)
     → (last : ℕ) (held : Run) → runs_from last held (ls ++ ms) ≡ runs_from last held ls ++ rest

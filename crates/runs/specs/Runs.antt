@@ -1,13 +1,12 @@
 -- Lines cut into runs, in the words of request 7 of document 02: consecutive lines that read as GSV form a run, which ends with the number
 -- that its first line announced as last or its ninth line, or before a line that does not read as GSV, a line numbered 1 or the end of
 -- input. The lines are those that the finder finds, in order.
-use Rattle.std.specs.Prelude.{◌≤◌, ℕ, ◌||◌, Bool, [], ◌++◌, ◌∷◌, List, eqb, leb, length}
+use Rattle.std.specs.Prelude.{◌≤◌, ℕ, ◌||◌, Bool, [], ◌++◌, ◌∷◌, List, eqb, leb, length, None, Option, Some}
 use Rattle.digits.specs.Pick.{pick}
 use Rattle.sentence.specs.Lines.{read_line}
 use Rattle.sentence.specs.Sentence as S
 use Rattle.sentence.specs.Sentence.{Sentence}
 use Rattle.runs.specs.declared.Says.{Says}
-use Rattle.runs.specs.declared.Says.TheVariants.{Numbered, Other}
 
 abbrev pub Line : Type 0
 Line = List ℕ
@@ -16,23 +15,23 @@ abbrev pub Run : Type 0
 Run = List Line
 
 -- What a line says to the cut: its number and the last that it announces, or nothing where it does not read as GSV.
-abbrev pub says_of : Sentence → Says
-says_of (S.Gsv t v) = Numbered v.line v.lines
-says_of (S.Gga t r) = Other
-says_of (S.Gll t r) = Other
-says_of (S.Gsa t r) = Other
-says_of (S.Rmc t r) = Other
-says_of (S.Vtg t r) = Other
-says_of (S.Zda t r) = Other
-says_of (S.Pr r) = Other
-says_of (S.Tr r) = Other
-says_of (S.Sr r) = Other
-says_of S.Er = Other
-says_of (S.Pa r) = Other
-says_of (S.Ta r) = Other
-says_of (S.Sa r) = Other
-says_of (S.Ea r) = Other
-says_of (S.Refused n f) = Other
+abbrev pub says_of : Sentence → Option Says
+says_of (S.Gsv t v) = Some (record { number = v.line; last = v.lines })
+says_of (S.Gga t r) = None
+says_of (S.Gll t r) = None
+says_of (S.Gsa t r) = None
+says_of (S.Rmc t r) = None
+says_of (S.Vtg t r) = None
+says_of (S.Zda t r) = None
+says_of (S.Pr r) = None
+says_of (S.Tr r) = None
+says_of (S.Sr r) = None
+says_of S.Er = None
+says_of (S.Pa r) = None
+says_of (S.Ta r) = None
+says_of (S.Sa r) = None
+says_of (S.Ea r) = None
+says_of (S.Refused n f) = None
 
 -- The open run ends, where there is one: it has lines.
 abbrev pub closed : Run → List Run
@@ -48,10 +47,11 @@ abbrev pub grown : ℕ → Run → ℕ → (ℕ → Run → List Run) → List R
 grown last run k go = pick (ends_with last run k) (run ∷ go 0 []) (go last run)
 
 -- A line that does not read as GSV, and a line numbered 1, end the open run before them; the first line of a run says which is its last.
-abbrev pub cut_at : ℕ → Run → Line → Says → (ℕ → Run → List Run) → List Run
-cut_at last held l Other go = closed held ++ go 0 []
-cut_at last held l (Numbered k n) go =
-    pick (eqb (length held) 0 || eqb k 1) (closed held ++ grown n (l ∷ []) k go) (grown last (held ++ (l ∷ [])) k go)
+abbrev pub cut_at : ℕ → Run → Line → Option Says → (ℕ → Run → List Run) → List Run
+cut_at last held l None go = closed held ++ go 0 []
+cut_at last held l (Some s) go =
+    pick (eqb (length held) 0 || eqb s.number 1) (closed held ++ grown s.last (l ∷ []) s.number go)
+    (grown last (held ++ (l ∷ [])) s.number go)
 
 unfoldable pub runs_from : ℕ → Run → List Line → List Run
 runs_from last held [] = closed held
@@ -66,9 +66,9 @@ unfoldable pub lines_of : List Run → List Line
 lines_of [] = []
 lines_of (r ∷ rs) = r ++ lines_of rs
 
-abbrev pub with_gsv : Says → Line → List Line → List Line
-with_gsv Other l ls = ls
-with_gsv (Numbered k n) l ls = l ∷ ls
+abbrev pub with_gsv : Option Says → Line → List Line → List Line
+with_gsv None l ls = ls
+with_gsv (Some s) l ls = l ∷ ls
 
 unfoldable pub gsv_lines : List Line → List Line
 gsv_lines [] = []

@@ -1,10 +1,9 @@
 -- The cut as a step, line by line, for one who keeps of the open run how many lines it has and the number that its first line announced.
-use Rattle.std.specs.Prelude.{◌+◌, ℕ, ◌&&◌, ◌||◌, Bool, false, true, [], ◌++◌, ◌∷◌, List, eqb, leb, ltb}
+use Rattle.std.specs.Prelude.{◌+◌, ℕ, ◌&&◌, ◌||◌, Bool, false, true, [], ◌++◌, ◌∷◌, List, eqb, leb, ltb, None, Option, Some}
 use Rattle.digits.specs.Pick.{pick}
 use Rattle.sentence.specs.Lines.{read_line}
 use Rattle.runs.specs.declared.Open.{Open}
 use Rattle.runs.specs.declared.Says.{Says}
-use Rattle.runs.specs.declared.Says.TheVariants.{Numbered, Other}
 use Rattle.runs.specs.declared.Stepped.{Stepped}
 use Rattle.runs.specs.Runs.{Line, Run, says_of}
 
@@ -26,9 +25,9 @@ joined_to before run k =
     pick (eqb k run.last || leb 8 run.lines) (stepped before true true none_open)
     (stepped before true false (open_of (run.lines + 1) run.last))
 
-abbrev pub step_of : Open → Says → Stepped
-step_of o Other = stepped (ltb 0 o.lines) false false none_open
-step_of o (Numbered k n) = joined_to (ltb 0 o.lines && eqb k 1) (run_for o k n) k
+abbrev pub step_of : Open → Option Says → Stepped
+step_of o None = stepped (ltb 0 o.lines) false false none_open
+step_of o (Some s) = joined_to (ltb 0 o.lines && eqb s.number 1) (run_for o s.number s.last) s.number
 
 -- The runs by the step: the open run is closed where the step says that it ends before the line, the line is put behind what is open then,
 -- and that is closed where the step says that it ends with the line.

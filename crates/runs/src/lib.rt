@@ -6,15 +6,15 @@ ghost use Rattle.sentence.specs.Lines.{read_line};
 ghost use Rattle.runs.specs.Runs.{says_of};
 ghost use Rattle.runs.specs.Step.{joined_to, none_open, run_for, step_of};
 
-// What a line says: nothing where it does not read as GSV, else its number and the number of the last line that it
-// announces.
+// What a line that reads as GSV says: its number, and the number of the last line that it announces.
 #[derive(Clone, Copy)]
-pub enum Says {
-    Other,
-    Numbered(u32, u32),
+pub struct Says {
+    pub number: u32,
+    pub last: u32,
 }
 
-// The open run: how many lines it has, 0 where none is open, and the number that its first line announced as last.
+// The open run: how many lines it has, 0 where none is open, and the number that its first line announced as last. A host of C
+// keeps both numbers, so that none open is no Option.
 #[derive(Clone, Copy)]
 pub struct Open {
     pub lines: u32,
@@ -31,19 +31,20 @@ pub struct Stepped {
     pub next: Open,
 }
 
-fn said_by(line: &[u8]) -> Says
+// Nothing where the line does not read as GSV.
+fn said_by(line: &[u8]) -> Option<Says>
     ensures { result ≡ says_of (read_line line.now) }
 {
     let mut n = [0i64; 33];
     let told = sentence::read(line, &mut n);
-    if told.no != 0 {
-        return Says::Other;
-    }
-    if told.kind != 4 {
-        return Says::Other;
+    if told.no != 0 || told.kind != 4 {
+        return None;
     }
     let gsv = kind_gsv::at(&n);
-    Says::Numbered(gsv.line, gsv.lines)
+    Some(Says {
+        number: gsv.line,
+        last: gsv.lines,
+    })
 }
 
 fn none_open() -> Open
@@ -57,7 +58,7 @@ fn none_open() -> Open
 fn run_for(was: Open, number: u32, last: u32) -> Open
     ensures { result ≡ run_for was number last }
 {
-    if (was.lines == 0) | (number == 1) {
+    if was.lines == 0 || number == 1 {
         return Open { lines: 0, last };
     }
     was
@@ -67,7 +68,7 @@ fn run_for(was: Open, number: u32, last: u32) -> Open
 fn joined(before: bool, run: Open, number: u32) -> Stepped
     ensures { result ≡ joined_to before run number }
 {
-    if (number == run.last) | (8 <= run.lines) {
+    if number == run.last || 8 <= run.lines {
         return Stepped {
             before,
             joins: true,
@@ -93,17 +94,14 @@ fn joined(before: bool, run: Open, number: u32) -> Stepped
 pub fn step(was: Open, line: &[u8]) -> Stepped
     ensures { result ≡ step_of was (says_of (read_line line.now)) }
 {
-    let said = said_by(line);
-    match said {
-        Says::Other => Stepped {
+    let Some(said) = said_by(line) else {
+        return Stepped {
             before: 0 < was.lines,
             joins: false,
             ends: false,
             next: none_open(),
-        },
-        Says::Numbered(number, last) => {
-            let before = (0 < was.lines) & (number == 1);
-            joined(before, run_for(was, number, last), number)
-        }
-    }
+        };
+    };
+    let before = 0 < was.lines && said.number == 1;
+    joined(before, run_for(was, said.number, said.last), said.number)
 }

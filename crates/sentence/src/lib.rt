@@ -4,7 +4,8 @@
 pub mod writing;
 
 ghost use Rattle.std.specs.Prelude.{◌≡◌, replicate};
-ghost use Rattle.fields.specs.Places.{fields_by, Placed};
+ghost use Rattle.fields.specs.Parts.{parts_of};
+ghost use Rattle.fields.specs.Places.{Placed};
 ghost use Rattle.numbers.specs.Told.{Tells};
 ghost use Rattle.sentence.specs.Back.{address_at, known_of};
 ghost use Rattle.sentence.specs.FromHost.{left_as, written_as};
@@ -13,37 +14,38 @@ ghost use Rattle.sentence.specs.Numbers.{count_of};
 ghost use Rattle.sentence.specs.ToHost.{handed, laid_for, told_for};
 
 use address::{Address, Kind, Pir, Talker};
+use fields::Fields;
 use frame::Written;
 use numbers::Told;
 
 // A sentence of a talker, by its type.
-fn standard(out: &mut [i64], t: Talker, k: Kind, n: usize, s: &[u8], p: &[usize]) -> Told
-    ensures { Tells (handed (standard_of t k n (fields_by p.now s.now)) out.old) result out.new }
+fn standard(out: &mut [i64], t: Talker, k: Kind, f: Fields) -> Told
+    ensures { Tells (handed (standard_of t k f.entry.count (parts_of f.entry)) out.old) result out.new }
 {
     match k {
-        Kind::Gga => kind_gga::read(out, t, n, s, p),
-        Kind::Gll => kind_gll::read(out, t, n, s, p),
-        Kind::Gsa => kind_gsa::read(out, t, n, s, p),
-        Kind::Gsv => kind_gsv::read(out, t, n, s, p),
-        Kind::Rmc => kind_rmc::read(out, t, n, s, p),
-        Kind::Vtg => kind_vtg::read(out, t, n, s, p),
-        Kind::Zda => kind_zda::read(out, t, n, s, p),
+        Kind::Gga => kind_gga::read(out, t, f),
+        Kind::Gll => kind_gll::read(out, t, f),
+        Kind::Gsa => kind_gsa::read(out, t, f),
+        Kind::Gsv => kind_gsv::read(out, t, f),
+        Kind::Rmc => kind_rmc::read(out, t, f),
+        Kind::Vtg => kind_vtg::read(out, t, f),
+        Kind::Zda => kind_zda::read(out, t, f),
     }
 }
 
 // A sentence of the maker.
-fn maker(out: &mut [i64], k: Pir, n: usize, s: &[u8], p: &[usize]) -> Told
-    ensures { Tells (handed (maker_of k n (fields_by p.now s.now)) out.old) result out.new }
+fn maker(out: &mut [i64], k: Pir, f: Fields) -> Told
+    ensures { Tells (handed (maker_of k f.entry.count (parts_of f.entry)) out.old) result out.new }
 {
     match k {
-        Pir::Pr => kind_pir_port::command::read(out, n, s, p),
-        Pir::Tr => kind_pir_datum::command::read(out, n, s, p),
-        Pir::Sr => kind_pir_masks::command::read(out, n, s, p),
-        Pir::Er => kind_pir_code::command::read(out, n, s, p),
-        Pir::Pa => kind_pir_port::reply::read(out, n, s, p),
-        Pir::Ta => kind_pir_datum::reply::read(out, n, s, p),
-        Pir::Sa => kind_pir_masks::reply::read(out, n, s, p),
-        Pir::Ea => kind_pir_code::reply::read(out, n, s, p),
+        Pir::Pr => kind_pir_port::command::read(out, f),
+        Pir::Tr => kind_pir_datum::command::read(out, f),
+        Pir::Sr => kind_pir_masks::command::read(out, f),
+        Pir::Er => kind_pir_code::command::read(out, f),
+        Pir::Pa => kind_pir_port::reply::read(out, f),
+        Pir::Ta => kind_pir_datum::reply::read(out, f),
+        Pir::Sa => kind_pir_masks::reply::read(out, f),
+        Pir::Ea => kind_pir_code::reply::read(out, f),
     }
 }
 
@@ -62,9 +64,14 @@ fn read_body(out: &mut [i64], s: &[u8], count: usize, ends: &[usize]) -> Told
         };
     }
     let n = count - 1;
+    let fields = Fields {
+        count: n,
+        body: s,
+        ends,
+    };
     match address {
-        Address::Standard(t, k) => standard(out, t, k, n, s, ends),
-        Address::Maker(k) => maker(out, k, n, s, ends),
+        Address::Standard(t, k) => standard(out, t, k, fields),
+        Address::Maker(k) => maker(out, k, fields),
         Address::Unknown => numbers::refuse(3, 0),
     }
 }

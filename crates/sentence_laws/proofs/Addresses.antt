@@ -2,7 +2,7 @@
 use Prim.Native.Nat.{suc, zero, ℕ}
 use mathlib.Core.Bool.{◌&&◌, Bool, false, not, true}
 use mathlib.Core.List.{[], ◌++◌, ◌∷◌, List}
-use mathlib.Core.Option.{none, Option, some}
+use Rattle.std.specs.Prelude.{None, Option, Some}
 use mathlib.Core.Path.{◌∙◌, ◌≡◌, ap, refl, sym}
 use native.Mathlib.Omega.{arith}
 use lib.Dec.{eqb}
@@ -32,12 +32,12 @@ module _ {A : Type 0} (text : A → List ℕ) where
   Texts [] = Unit {0}
   Texts (n ∷ ns) = (n.bytes ≡ text n.thing) × Texts ns
 
-  found-text : (a : List ℕ) (ns : List (Named A)) (v : A) → Texts ns → look_up a ns ≡ some v → a ≡ text v
+  found-text : (a : List ℕ) (ns : List (Named A)) (v : A) → Texts ns → look_up a ns ≡ Some v → a ≡ text v
   unfolding look_up
   found-text a [] v r e = nothing v e
   found-text a (n ∷ ns) v r e = go (same a n.bytes) refl e (found-text a ns v r.1)
     where
-      go : (t : Bool) → same a n.bytes ≡ t → pick t (some n.thing) (look_up a ns) ≡ some v → (look_up a ns ≡ some v → a ≡ text v)
+      go : (t : Bool) → same a n.bytes ≡ t → pick t (Some n.thing) (look_up a ns) ≡ Some v → (look_up a ns ≡ Some v → a ≡ text v)
           → a ≡ text v
       go true q i ih = let s : n.thing ≡ v = cc in same_true a n.bytes q ∙ r.0 ∙ ap text s
       go false q i ih = ih i
@@ -51,10 +51,10 @@ kind_text K.Rmc = ascii "RMC"
 kind_text K.Vtg = ascii "VTG"
 kind_text K.Zda = ascii "ZDA"
 
-talker-is : (a : List ℕ) (t : Talker) → talker_of a ≡ some t → a ≡ talker_text t
+talker-is : (a : List ℕ) (t : Talker) → talker_of a ≡ Some t → a ≡ talker_text t
 talker-is a t = found-text talker_text a talkers t (refl, (refl, (refl, (refl, (refl, tt)))))
 
-kind-is : (a : List ℕ) (k : Kind) → kind_of a ≡ some k → a ≡ kind_text k
+kind-is : (a : List ℕ) (k : Kind) → kind_of a ≡ Some k → a ≡ kind_text k
 kind-is a k = found-text kind_text a kinds k (refl, (refl, (refl, (refl, (refl, (refl, (refl, tt)))))))
 
 module _ (t : Talker) (k : Kind) where
@@ -65,21 +65,21 @@ module _ (t : Talker) (k : Kind) where
   unfolding known_of
   known_is a e = by-talker (talker_of (take 2 a)) refl e
     where
-      by_kind : (u : Talker) → talker_of (take 2 a) ≡ some u → (o : Option Kind) → kind_of (drop 2 a) ≡ o → standard u o ≡ Standard t k
+      by_kind : (u : Talker) → talker_of (take 2 a) ≡ Some u → (o : Option Kind) → kind_of (drop 2 a) ≡ o → standard u o ≡ Standard t k
           → a ≡ talker_text t ++ kind_text k
-      by_kind u p (some j) q i =
+      by_kind u p (Some j) q i =
           let x : u ≡ t = cc in
           let y : j ≡ k = cc in
           sym (take-append-drop 2 a) ∙ rw (talker-is (take 2 a) u p, kind-is (drop 2 a) j q, x, y)
-      by_kind u p none q i = unknown-not i
+      by_kind u p None q i = unknown-not i
 
       by-maker : (o : Option Pir) → maker o ≡ Standard t k → a ≡ talker_text t ++ kind_text k
-      by-maker (some p) i = let z : ◌≡◌ {A = ℕ} 0 1 = cc in let w : ⊥ = omega arith in absurd w
-      by-maker none i = unknown-not i
+      by-maker (Some p) i = let z : ◌≡◌ {A = ℕ} 0 1 = cc in let w : ⊥ = omega arith in absurd w
+      by-maker None i = unknown-not i
 
       by-talker : (o : Option Talker) → talker_of (take 2 a) ≡ o → talked o a ≡ Standard t k → a ≡ talker_text t ++ kind_text k
-      by-talker (some u) p i = by_kind u p (kind_of (drop 2 a)) refl i
-      by-talker none p i = by-maker (pir_of a) i
+      by-talker (Some u) p i = by_kind u p (kind_of (drop 2 a)) refl i
+      by-talker None p i = by-maker (pir_of a) i
 
 -- The first field is all before the first comma.
 onto-first : (b : ℕ) (fs : List (List ℕ)) → First fs → get_or (onto b fs) 0 [] ≡ b ∷ get_or fs 0 []

@@ -1,7 +1,7 @@
 -- The addresses that our writers put are known, clean and of five bytes.
 use Prim.Native.Nat.{ℕ}
 use mathlib.Core.List.{◌++◌, List}
-use mathlib.Core.Option.{some}
+use Rattle.std.specs.Prelude.{Some}
 use mathlib.Core.Path.{◌∙◌, ◌≡◌, refl}
 use lib.Dec.{lit<}
 use lib.ListN.{length, length-append}
@@ -41,7 +41,7 @@ module _ (t : Talker) (kind : List ℕ) (three : length kind ≡ 3) where
   address-clean c = clean-append (talker_text t) kind (talker-clean t) c
 
 -- Each talker is known by its two bytes, so each pair of talker and type is known.
-talker-known : (t : Talker) → talker_of (talker_text t) ≡ some t
+talker-known : (t : Talker) → talker_of (talker_text t) ≡ Some t
 unfolding look_up same
 talker-known Gp = refl
 talker-known Gl = refl
@@ -49,7 +49,7 @@ talker-known Ga = refl
 talker-known Gq = refl
 talker-known Gn = refl
 
-known-standard : (t : Talker) (kind : List ℕ) (k : Kind) → kind_of kind ≡ some k → known_of (talker_text t ++ kind) ≡ Standard t k
+known-standard : (t : Talker) (kind : List ℕ) (k : Kind) → kind_of kind ≡ Some k → known_of (talker_text t ++ kind) ≡ Standard t k
 unfolding known_of
 known-standard t kind k e = rw (take_at (talker_text t) kind 2 (talker-two t), talker-known t)
     (rw (drop_at (talker_text t) kind 2 (talker-two t), e))

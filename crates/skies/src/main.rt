@@ -2,221 +2,99 @@
 // row for each satellite, or why it is none.
 #![tactic(auto)]
 
-use exhibits_walks::lines::{Step, Walk};
+use exhibits_walks::lines::Lines;
 use index::Entry;
 use runs::Open;
-use std::io;
 use std::io::{Read, Write};
+use std::{io, mem};
 
 // The open run: how many of its bytes are held, and the number and the offset of its first line.
-#[derive(Clone, Copy)]
-struct Kept {
+#[derive(Clone, Copy, Default)]
+struct Run {
     length: usize,
     number: u64,
     offset: u64,
 }
 
-// What the lines so far have left: what the cut knows of the open run, that run, and whether all that ended could be written.
-#[derive(Clone, Copy)]
-struct Taken {
-    open: Open,
-    kept: Kept,
-    written: io::Result<()>,
+// The first `n` bytes of `s`; none where it does not have so many.
+fn front(s: &[u8], n: usize) -> &[u8] {
+    s.get(..n).unwrap_or(&[])
 }
 
-fn nothing() -> Kept {
-    Kept {
-        length: 0,
-        number: 0,
-        offset: 0,
-    }
-}
-
-fn at_start() -> Taken {
-    Taken {
-        open: Open { lines: 0, last: 0 },
-        kept: nothing(),
-        written: Ok(()),
-    }
-}
-
-// The last `n` of the bytes of `s` up to `e`; none where they do not lie in it.
-fn last_of(s: &[u8], e: usize, n: usize) -> &[u8] {
-    if e <= s.len() {
-        if n <= e {
-            return &s[e - n..e];
-        }
-    }
-    &s[0..0]
-}
-
-// Writes the rows of a run; they never pass 1024 bytes.
-fn say<W: Write>(to: &mut W, held: &[u8], k: Kept) -> io::Result<()> {
-    let mut out = [0u8; 1024];
-    let n = skies_rows::put_run(
-        &mut out,
-        0,
-        k.number,
-        k.offset,
-        last_of(held, k.length, k.length),
-    );
-    turns::flush(to, &out, n)
-}
-
-// Writes a run that has ended.
-fn say_if<W: Write>(to: &mut W, held: &[u8], has_ended: bool, k: Kept) -> io::Result<()> {
-    if has_ended {
-        return say(to, held, k);
-    }
-    Ok(())
-}
-
-// What is held behind a run: nothing where it has ended.
-fn left_of(k: Kept, has_ended: bool) -> Kept {
-    if has_ended {
-        return nothing();
-    }
-    k
-}
-
-// Holds a line that stands in a run; the first says where the run stands.
-fn hold(held: &mut [u8], joins: bool, k: Kept, e: Entry, line: &[u8]) -> Kept {
-    if !joins {
-        return k;
-    }
-    let length = put::put_bytes(held, k.length, line);
-    if k.length == 0 {
-        return Kept {
-            length,
-            number: e.number,
-            offset: e.offset,
-        };
-    }
-    Kept {
-        length,
-        number: k.number,
-        offset: k.offset,
-    }
-}
-
-// Writes the run that ends before a line, holds the line where it stands in a run, and writes the run that ends with it.
-fn take_line<W: Write>(
-    to: &mut W,
-    held: &mut [u8],
-    open: Open,
-    k: Kept,
-    e: Entry,
-    line: &[u8],
-) -> Taken {
-    let stepped = runs::step(open, line);
-    let next = stepped.next;
-    let first = say_if(to, held, stepped.before, k);
-    let kept = hold(held, stepped.joins, left_of(k, stepped.before), e, line);
-    let second = say_if(to, held, stepped.ends, kept);
-    Taken {
-        open: next,
-        kept: left_of(kept, stepped.ends),
-        written: second.and(first),
-    }
-}
-
-// The same for the line that ends at the place `end` of the buffer.
-fn take_next<W: Write>(
-    to: &mut W,
-    held: &mut [u8],
-    t: Taken,
-    e: Entry,
-    buf: &[u8],
-    end: usize,
-) -> Taken {
-    let open = t.open;
-    let kept = t.kept;
-    let line = last_of(buf, end, e.length as usize);
-    take_line(to, held, open, kept, e, line)
-}
-
-// The end of the input ends the open run.
-fn finish<W: Write, E: Write>(to: &mut W, err: &mut E, held: &[u8], t: Taken) {
-    let open = t.open;
-    let kept = t.kept;
-    if let Err(e) = say_if(to, held, 0 < open.lines, kept) {
-        turns::fail(err, b"skies: standard output cannot be written", e);
-    }
-}
-
-// What a step over the input leaves: whether to go on, where the walk stands, and what the lines so far have left.
+// What the lines so far have left: what the cut knows of the open run, that run and its bytes.
 #[derive(Drop)]
-struct Went {
-    more: bool,
-    walk: Walk,
-    taken: Taken,
+struct Skies<'a, W> {
+    to: &'a mut W,
+    open: Open,
+    run: Run,
+    held: [u8; 738],
 }
 
-fn stop(walk: Walk, taken: Taken) -> Went {
-    Went {
-        more: false,
-        walk,
-        taken,
-    }
+// Why not all skies are shown.
+#[derive(Clone, Copy, Debug)]
+enum Trouble {
+    NoInput(io::Error),
+    NoOutput(io::Error),
 }
 
-// Where rows could not be written, it says so and does not go on.
-fn go_on<E: Write>(err: &mut E, walk: Walk, taken: Taken) -> Went {
-    if let Err(e) = taken.written {
-        turns::fail(err, b"skies: standard output cannot be written", e);
-        return stop(walk, taken);
+impl<'a, W: Write> Skies<'a, W> {
+    fn new(to: &'a mut W) -> Self {
+        Skies {
+            to,
+            open: Open { lines: 0, last: 0 },
+            run: Run::default(),
+            held: [0; 738],
+        }
     }
-    Went {
-        more: true,
-        walk,
-        taken,
-    }
-}
 
-// Takes the next line of the input.
-fn take_step<R: Read, W: Write, E: Write>(
-    from: &mut R,
-    to: &mut W,
-    err: &mut E,
-    buf: &mut [u8],
-    held: &mut [u8],
-    walk: Walk,
-    t: Taken,
-) -> Went {
-    let step = exhibits_walks::lines::next(from, buf, walk);
-    match step {
-        Step::Line(on, e) => {
-            let taken = take_next(to, held, t, e, buf, on.at);
-            go_on(err, on, taken)
-        }
-        Step::End(_) => {
-            finish(to, err, held, t);
-            stop(walk, t)
-        }
-        Step::Failed(e) => {
-            turns::fail(err, b"skies: standard input cannot be read", e);
-            stop(walk, t)
-        }
+    // Writes the rows of a run that has ended; they never pass 1024 bytes. Nothing is held behind it.
+    fn end_run(&mut self) -> io::Result<()> {
+        let run = mem::take(&mut self.run);
+        let mut out = [0u8; 1024];
+        let n = skies_rows::put_run(
+            &mut out,
+            0,
+            run.number,
+            run.offset,
+            front(&self.held, run.length),
+        );
+        turns::flush(self.to, &out, n)
     }
-}
 
-// Goes over the lines of the input. They are counted down from a number that no run uses up, so that the loop ends.
-fn show_all<R: Read, W: Write, E: Write>(
-    from: &mut R,
-    to: &mut W,
-    err: &mut E,
-    buf: &mut [u8],
-    held: &mut [u8],
-) {
-    let mut walk = exhibits_walks::lines::start();
-    let mut taken = at_start();
-    for _ in 0..u64::MAX {
-        let went = take_step(from, to, err, buf, held, walk, taken);
-        if !went.more {
-            return;
+    // Holds a line that stands in a run; the first says where the run stands.
+    fn hold(&mut self, e: Entry, line: &[u8]) {
+        if self.run.length == 0 {
+            self.run.number = e.number;
+            self.run.offset = e.offset;
         }
-        walk = went.walk;
-        taken = went.taken;
+        self.run.length = put::put_bytes(&mut self.held, self.run.length, line);
+    }
+
+    // Writes the run that ends before a line, holds the line where it stands in a run, and writes the run that ends with it: the second
+    // also where the first could not be written.
+    fn take_line(&mut self, e: Entry, line: &[u8]) -> io::Result<()> {
+        let step = runs::step(self.open, line);
+        self.open = step.next;
+        let before = if step.before { self.end_run() } else { Ok(()) };
+        if step.joins {
+            self.hold(e, line);
+        }
+        let after = if step.ends { self.end_run() } else { Ok(()) };
+        after.and(before)
+    }
+
+    // Goes over the lines of the input, whose end ends the open run. The lines are counted down from a number that no run uses up.
+    fn show_all<R: Read>(&mut self, lines: &mut Lines<R>) -> Result<(), Trouble> {
+        for _ in 0..u64::MAX {
+            let Some(e) = lines.next_line().map_err(Trouble::NoInput)? else {
+                if 0 < self.open.lines {
+                    self.end_run().map_err(Trouble::NoOutput)?;
+                }
+                break;
+            };
+            self.take_line(e, lines.line()).map_err(Trouble::NoOutput)?;
+        }
+        Ok(())
     }
 }
 
@@ -228,13 +106,16 @@ fn main(rt: HostRuntime) {
         );
         return;
     }
-    let mut buf = [0u8; 65536];
-    let mut held = [0u8; 738];
-    show_all(
-        &mut rt.stdin(),
-        &mut rt.stdout(),
-        &mut err,
-        &mut buf,
-        &mut held,
-    );
+    let mut to = rt.stdout();
+    match Skies::new(&mut to).show_all(&mut Lines::new(rt.stdin())) {
+        Ok(()) => {}
+        Err(Trouble::NoInput(e)) => {
+            turns::fail(&mut err, b"skies: standard input cannot be read", e)
+        }
+        Err(Trouble::NoOutput(e)) => turns::fail(
+            &mut err,
+            b"skies: standard output cannot be written",
+            e,
+        ),
+    }
 }

@@ -1,11 +1,11 @@
 -- The parts of the rows of a run, by the tests that lead to them; satellites put one after another; and a sky by the answer that it says.
-use Prim.Native.Nat.{◌+◌, ◌-◌, ◌<◌, ◌≤◌, min, suc, ℕ}
+use Prim.Native.Nat.{◌+◌, ◌-◌, ◌<◌, ◌≤◌, min, ℕ}
 use mathlib.Core.Bool.{false, true}
-use mathlib.Core.List.{[], ◌++◌, List}
+use mathlib.Core.List.{◌++◌, List}
 use mathlib.Core.Path.{◌∙◌, ◌≡◌, ap, refl, sym}
 use native.Mathlib.Omega.{arith}
 use native.Mathlib.Numerals.{add-one}
-use lib.ListN.{drop, get_or, length, length-append, length-replicate, replicate, take}
+use lib.ListN.{drop, drop_of_length-le, get_or, length, length-append, length-replicate, replicate, take}
 use lib.Seq.{drop-cons, take_at}
 use borrow.Author.Tests.{eq-eqb, ne_eqb}
 use Rattle.digits.specs.Ascii.{ascii}
@@ -17,8 +17,7 @@ use Rattle.kind_gsv.specs.declared.Entry.{Entry}
 use Rattle.put.specs.Wrote.{Held, Puts, wrote}
 use Rattle.put.proofs.Chain.{wrote-append}
 use Rattle.sky.specs.declared.Sky.{Sky}
-use Rattle.sky.specs.declared.Whose.{Whose}
-use Rattle.sky.specs.declared.Whose.TheVariants.{Nobody, Of}
+use Rattle.std.specs.Prelude.{None, Option, Some}
 use Rattle.sky.specs.Group.{Answer, refused, whole}
 use Rattle.sky.specs.Sky.{sky_of}
 use Rattle.text.specs.Numbers.{decimal_text}
@@ -52,33 +51,28 @@ unfolding sent_text
 not-sent v e = rw e
 
 -- Satellites put one after another: those from place i on are one and the ones behind it.
-module _ (l : List Entry) (n i : ℕ) where
-  pub rows_next : {h k : Held} → i < length l → i < n → Puts h (satellite_text (get_or l i blank_entry)) k
-      → wrote k (satellites_text (take (n - (i + 1)) (drop (i + 1) l))) ≡ wrote h (satellites_text (take (n - i) (drop i l)))
+module _ (l : List Entry) (i : ℕ) where
+  pub rows_next : {h k : Held} → i < length l → Puts h (satellite_text (get_or l i blank_entry)) k
+      → wrote k (satellites_text (drop (i + 1) l)) ≡ wrote h (satellites_text (drop i l))
   unfolding satellites_text
-  rows_next {h} {k} b c p =
-      let m : n - i ≡ suc (n - suc i) = omega (arith, c) in
-      rw (p.is, drop-cons l i blank_entry b, add-one i, m, wrote-append h (satellite_text (get_or l i blank_entry)) _)
+  rows_next {h} {k} b p =
+      rw (p.is, drop-cons l i blank_entry b, add-one i, wrote-append h (satellite_text (get_or l i blank_entry)) _)
 
-  pub rows_end : (h : Held) → n ≤ i → h ≡ wrote h (satellites_text (take (n - i) (drop i l)))
+  pub rows_end : (h : Held) → length l ≤ i → h ≡ wrote h (satellites_text (drop i l))
   unfolding satellites_text wrote
-  rows_end h b = let m : n - i ≡ 0 = omega (arith, b) in rw m
-
-pub rows_all : (h : Held) (l : List Entry) (n : ℕ)
-    → wrote h (satellites_text (take (n - 0) (drop 0 l))) ≡ wrote h (satellites_text (take n l))
-rows_all h l n = let m : n - 0 ≡ n = omega arith in ap (λ (k : ℕ). wrote h (satellites_text (take k l))) m
+  rows_end h b = rw (drop_of_length-le l {i = i} b)
 
 -- What a whole sky and nobody's differ in.
-abbrev count : Whose → ℕ
-count Nobody = 0
-count (Of t) = 1
+abbrev count : Option Talker → ℕ
+count None = 0
+count (Some t) = 1
 
-abbrev who : Whose → Talker
-who Nobody = Gn
-who (Of t) = t
+abbrev who : Option Talker → Talker
+who None = Gn
+who (Some t) = t
 
 module _ (number offset : ℕ) (s : Sky) where
-  pub nobody : (a : Answer) → s ≡ sky_of a → s.talker ≡ Nobody
+  pub nobody : (a : Answer) → s ≡ sky_of a → s.talker ≡ None
       → ascii "no sky at line " ++ (place_text number offset ++ refused_text s.no s.line s.field) ≡ run_text number offset a
   nobody (whole t es) e h =
       let z : ◌≡◌ {A = ℕ} 1 0 = ap count (sym (ap (λ (s : Sky). s.talker) e) ∙ h) in
@@ -91,7 +85,7 @@ module _ (number offset : ℕ) (s : Sky) where
   shown t s = ascii "sky at line " ++ (place_text number offset
       ++ sky_text t s.table.count (take (min 36 s.table.count) s.table.entries))
 
-  pub somebody : (a : Answer) (t : Talker) → s ≡ sky_of a → s.talker ≡ Of t → length s.table.entries ≡ 36
+  pub somebody : (a : Answer) (t : Talker) → s ≡ sky_of a → s.talker ≡ Some t → length s.table.entries ≡ 36
       → shown t s ≡ run_text number offset a
   somebody (refused n k f) t e h full =
       let z : ◌≡◌ {A = ℕ} 0 1 = ap count (sym (ap (λ (s : Sky). s.talker) e) ∙ h) in

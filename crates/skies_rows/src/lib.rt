@@ -12,7 +12,7 @@ ghost use Rattle.skies_rows.specs.Rows.{sent_text, sky_text, where_text};
 use address::Talker;
 use form::Maybe;
 use kind_gsv::Entry;
-use sky::{Table, Whose};
+use sky::Table;
 
 // ` 33`, or ` -` for what was not sent.
 fn put_sent(out: &mut [u8], at: usize, v: Maybe) -> usize
@@ -36,25 +36,15 @@ fn put_satellite(out: &mut [u8], at: usize, e: Entry) -> usize
     put::put(out, a4, 10)
 }
 
-// How many places of a table are used; no more than there are.
-fn used(count: usize) -> usize
-    ensures { result ≡ min 36 count }
-{
-    if count < 36 { count } else { 36 }
-}
-
 // The satellites of a table, a row each.
 fn put_satellites(out: &mut [u8], at: usize, table: Table) -> usize
     ensures { Puts (held at out.old) (satellites_text (take (min 36 table.count) table.entries))
         (held result out.new) }
 {
-    let entries = table.entries;
-    let count = used(table.count);
+    let used = &table.entries[..table.count.min(36)];
     let mut place = at;
-    let mut i: usize = 0;
-    while i < count {
-        place = put_satellite(out, place, entries[i]);
-        i += 1;
+    for e in used {
+        place = put_satellite(out, place, *e);
     }
     place
 }
@@ -134,14 +124,12 @@ pub fn put_run(out: &mut [u8], at: usize, number: u64, offset: u64, run: &[u8]) 
     ensures { Puts (held at out.old) (run_text number offset (group_of run.now)) (held result out.new) }
 {
     let sky = sky_read::read(run);
-    let whose = sky.talker;
-    let table = sky.table;
-    let Whose::Of(t) = whose else {
+    let Some(t) = sky.talker else {
         let a1 = put::put_bytes(out, at, b"no sky at line ");
         let a2 = put_place(out, a1, number, offset);
         return put_refused(out, a2, sky.no, sky.line, sky.field);
     };
     let a3 = put::put_bytes(out, at, b"sky at line ");
     let a4 = put_place(out, a3, number, offset);
-    put_sky(out, a4, t, table)
+    put_sky(out, a4, t, sky.table)
 }

@@ -10,27 +10,20 @@ ghost use Rattle.sky.specs.Group.{lines_for, entries_at};
 use address::Talker;
 use kind_gsv::Entry;
 
-// Whose sky it is: nobody's where the group was refused.
-#[derive(Clone, Copy)]
-pub enum Whose {
-    Nobody,
-    Of(Talker),
-}
-
-// Satellites in order: `count` places are used, the others are blank.
+// Satellites in order: `count` places are used, the others are blank. There is no heap, and a host is handed all 36 places.
 #[derive(Clone, Copy)]
 pub struct Table {
     pub count: usize,
     pub entries: [Entry; 36],
 }
 
-// A whole sky; or number, line and field of the refusal, and then it is nobody's and its table is blank.
+// A whole sky with its talker; or number, line and field of the refusal, and then no talker and a blank table.
 #[derive(Clone, Copy)]
 pub struct Sky {
     pub no: u8,
     pub line: usize,
     pub field: usize,
-    pub talker: Whose,
+    pub talker: Option<Talker>,
     pub table: Table,
 }
 
@@ -39,10 +32,7 @@ pub fn lines_for(n: u32) -> u32
     requires { n ≤ 99 }
     ensures { result ≡ lines_for n }
 {
-    if n == 0 {
-        return 1;
-    }
-    (n + 3) / 4
+    if n == 0 { 1 } else { n.div_ceil(4) }
 }
 
 // How many entries line `k` of so many satellites has.
@@ -50,13 +40,5 @@ pub fn entries_at(n: u32, k: u32) -> u32
     requires { (1 ≤ k) × (k ≤ 9) }
     ensures { result ≡ entries_at n k }
 {
-    let before = 4 * (k - 1);
-    if n <= before {
-        return 0;
-    }
-    let left = n - before;
-    if 4 < left {
-        return 4;
-    }
-    left
+    n.saturating_sub(4 * (k - 1)).min(4)
 }

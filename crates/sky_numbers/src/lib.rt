@@ -18,10 +18,8 @@ fn lay_entries(out: &mut [i64], s: [Entry; 36]) -> bool
     if out.len() < 252 {
         return false;
     }
-    let mut i: usize = 0;
-    while i < 36 {
-        kind_gsv::lay_entry(&mut out[7 * i..], s[i]);
-        i += 1;
+    for (i, e) in s.iter().enumerate() {
+        kind_gsv::lay_entry(&mut out[7 * i..], *e);
     }
     true
 }
@@ -38,9 +36,8 @@ pub fn lay(out: &mut [i64], t: Talker, r: Table) -> bool
     }
     let talker = numbers::talker_number(t);
     let first = [talker as i64, r.count as i64];
-    let entries = r.entries;
     numbers::lay(out, &first);
-    lay_entries(&mut out[2..], entries);
+    lay_entries(&mut out[2..], r.entries);
     true
 }
 
@@ -48,12 +45,9 @@ pub fn lay(out: &mut [i64], t: Talker, r: Table) -> bool
 pub fn table_at(numbers: &[i64]) -> Table
     ensures { result ≡ table_at numbers.now }
 {
-    let none = blank::entry();
-    let mut entries = [none; 36];
-    let mut i: usize = 0;
-    while i < 36 {
-        entries[i] = kind_gsv::entry_at(numbers, (2 + 7 * i) as u16);
-        i += 1;
+    let mut entries = [blank::entry(); 36];
+    for (i, e) in entries.iter_mut().enumerate() {
+        *e = kind_gsv::entry_at(numbers, (2 + 7 * i) as u16);
     }
     Table {
         count: numbers::whole_at(numbers, 1) as usize,

@@ -1,13 +1,14 @@
 -- The loop of the group reader: what was read so far, as the definition has it, and as the table, the marks and the head hold it. A line
 -- that ends the group ends both; a line that is taken goes on in both.
 use Prim.Native.Nat.{◌*◌, ◌+◌, ◌-◌, ◌<◌, ◌≤◌, suc, ℕ}
-use mathlib.Core.Bool.{◌&&◌, Bool, cond, false, true}
+use mathlib.Core.Bool.{Bool, cond, false, true}
 use mathlib.Core.List.{[], ◌++◌, ◌∷◌, List}
 use mathlib.Core.Option.{none, some}
 use mathlib.Core.Path.{◌∙◌, ◌≡◌, ap, refl, subst, sym}
 use native.Mathlib.Omega.{arith}
 use lib.Dec.{eqb}
-use lib.ListN.{drop, get_or, length, length-append, length-drop, replicate, set, take}
+use Rattle.std.specs.Prelude.{Err, None, Ok, Option, Result, Some}
+use lib.ListN.{drop, length, length-append, length-drop, replicate, take}
 use borrow.Author.Tests.{eqb-true}
 use Rattle.digits.specs.Pick.{pick}
 use Rattle.line.specs.Line.{line_refusal}
@@ -15,25 +16,23 @@ use Rattle.line.proofs.Laws.{line-short}
 use Rattle.lines.specs.Cut.{cut_rest, line_width}
 use Rattle.lines.specs.Reader.{next, read_from, stop}
 use Rattle.lines.proofs.ReadOn.{read-end, read_next, read_none, read-start, read-stop}
-use Rattle.address.specs.declared.Talker.{Talker}
 use Rattle.kind_gsv.specs.Blank.{blank_entry}
 use Rattle.kind_gsv.specs.declared.Entry.{Entry}
 use Rattle.sky.specs.Group as Group
 use Rattle.sky.specs.Group.{ended, entries_of, group_of, refused, rule, used_of, whole}
 use Rattle.sky.specs.Sky.{refused_sky, sky_of}
-use Rattle.sky.specs.declared.Whose.TheVariants.{Of}
 use Rattle.sky.proofs.Damage.{line_first}
 use Rattle.sky.proofs.MarkLaws.{marks-none}
 use Rattle.sky.proofs.Numbers.{room}
-use Rattle.sky_read.specs.Steps.{Before, end_if, IsTaken, not_begun, seen_if, seen_of, sky_end, Sound, step_of, Steps}
+use Rattle.sky_read.specs.Steps.{Before, IsTaken, seen_of, sky_end, Sound, step_of, Steps}
 use Rattle.sky_read.specs.declared.Head.{Head}
-use Rattle.sky_read.specs.declared.Next.TheVariants.{Stop, Taken}
-use Rattle.sky_read.specs.declared.Stepped.{Stepped}
+use Rattle.sky_read.specs.declared.Stop.{Stop}
+use Rattle.sky_read.specs.declared.Taken.{Taken}
 use Rattle.sky_read.proofs.Placing.{padded, placed, used-length}
-use Rattle.sky_read.proofs.Sizes.{Begun, follows-sized, head_of, Size, Sized, SizeIf}
+use Rattle.sky_read.proofs.Sizes.{Begun, follows-sized, head_of, Size, Sized}
 use Rattle.sky_read.proofs.SoundLaws.{sound}
 
-pub record Going (s : List ℕ) (entries : List Entry) (seen : List ℕ) (head : Head) (at k : ℕ) : Type 0 where
+pub record Going (s : List ℕ) (entries : List Entry) (seen : List ℕ) (head : Option Head) (at k : ℕ) : Type 0 where
   pub es : List Entry
   pub reads : group_of s ≡ read_from refused rule ended (seen_of head es) k (cut_rest (drop at s))
   pub places : entries ≡ padded es
@@ -78,103 +77,80 @@ no_bytes s h =
     let first : rule none 1 [] ≡ stop 1 0 = line_first none 1 [] (λ z. omega (arith, one, z)) ∙ ap (λ (n : ℕ). stop n 0) one in
     ap sky_of (sym (read_none refused rule ended s none h 1 0 first))
 
-pub begins : (s : List ℕ) (e : Entry) (h : Head) → 0 < length s → e ≡ blank_entry → h ≡ not_begun
-    → Going s (replicate 36 e) (replicate 100 0) h 0 1
+pub begins : (s : List ℕ) (e : Entry) → 0 < length s → e ≡ blank_entry → Going s (replicate 36 e) (replicate 100 0) None 0 1
 unfolding group_of
-begins s e h l p q = subst (λ (x : Head). Going s (replicate 36 e) (replicate 100 0) x 0 1) (sym q) (record {
+begins s e l p = record {
   es = [];
   reads = read-start refused rule ended s none l;
   places = ap (λ (x : Entry). replicate 36 x) p;
   before = (refl, marks-none);
   long = refl;
   size = (refl, refl);
-})
+}
 
-module _ (s : List ℕ) (entries : List Entry) (seen : List ℕ) (head : Head) (at k : ℕ) (g : Going s entries seen head at k) where
-  module _ (e : ℕ) (h : at < length s) (p : e ≡ at + line_width (drop at s)) (r : Stepped) (left : List ℕ)
+module _ (s : List ℕ) (entries : List Entry) (seen : List ℕ) (head : Option Head) (at k : ℕ) (g : Going s entries seen head at k) where
+  module _ (e : ℕ) (h : at < length s) (p : e ≡ at + line_width (drop at s)) (r : Result Taken Stop) (left : List ℕ)
       (st : Steps head k (take (e - at) (drop at s)) seen r left) where
     line : List ℕ
     line = take (e - at) (drop at s)
 
     -- A line that ends the group.
-    pub stops : (n f : ℕ) → r.next ≡ Stop n f → refused_sky n k f ≡ sky_of (group_of s)
-    stops n f q =
-        let i : stop n f ≡ rule (seen_of head g.es) k (take (e - at) (drop at s)) =
-        sym (ap (λ x. step_of x (seen_of head g.es) r.gsv) q) ∙ st.ruled g.es g.before in
-        ap sky_of (sym (g.reads ∙ read-stop refused rule ended s (seen_of head g.es) at k e h p (stop n f) i n f refl))
+    pub stops : (z : Stop) → r ≡ Err z → refused_sky z.no k z.field ≡ sky_of (group_of s)
+    stops z q =
+        let i : stop z.no z.field ≡ rule (seen_of head g.es) k (take (e - at) (drop at s)) =
+        sym (ap (λ (x : Result Taken Stop). step_of x (seen_of head g.es)) q) ∙ st.ruled g.es g.before in
+        ap sky_of (sym (g.reads ∙ read-stop refused rule ended s (seen_of head g.es) at k e h p (stop z.no z.field) i z.no z.field refl))
 
-    module _ (t : Talker) (q : r.next ≡ Taken t) where
-      is-taken : IsTaken head k (take (e - at) (drop at s)) t r.gsv g.es left
+    module _ (t : Taken) (q : r ≡ Ok t) where
+      is-taken : IsTaken head k (take (e - at) (drop at s)) t g.es left
       is-taken = st.taken g.es g.before t q
 
-      is-sound : Sound r.gsv
-      is-sound = sound (take (e - at) (drop at s)) t r.gsv is-taken.read
+      is-sound : Sound t.gsv
+      is-sound = sound (take (e - at) (drop at s)) t.talker t.gsv is-taken.read
 
-      pub sized : Sized k (length g.es) t r.gsv
-      sized = follows-sized k (length g.es) t r.gsv is-sound head g.es is-taken.fits g.size
+      pub sized : Sized k (length g.es) t.talker t.gsv
+      sized = follows-sized k (length g.es) t.talker t.gsv is-sound head g.es is-taken.fits g.size
 
-      reads_on : group_of s ≡ read_from refused rule ended (seen_of (head_of t r.gsv) (entries_of (seen_of head g.es) ++ used_of r.gsv))
-          (k + 1) (cut_rest (drop e s))
+      reads_on : group_of s ≡ read_from refused rule ended
+          (seen_of (Some (head_of t.talker t.gsv)) (entries_of (seen_of head g.es) ++ used_of t.gsv)) (k + 1) (cut_rest (drop e s))
       reads_on =
-          let i = sym (ap (λ x. step_of x (seen_of head g.es) r.gsv) q) ∙ st.ruled g.es g.before in
-          g.reads
-          ∙ read_next refused rule ended s (seen_of head g.es) at k e h p (next (some (Group.seen (seen_of head g.es) t r.gsv))) i
-          (some (Group.seen (seen_of head g.es) t r.gsv)) refl
-
-      abbrev place : ℕ
-      place = 4 * (k - 1)
-
-      abbrev item : ℕ → Entry
-      item j = get_or r.gsv.entries j blank_entry
-
-      abbrev stored : List Entry
-      stored = set (set (set (set entries place (item 0)) (place + 1) (item 1)) (place + 2) (item 2)) (place + 3) (item 3)
+          let i = sym (ap (λ (x : Result Taken Stop). step_of x (seen_of head g.es)) q) ∙ st.ruled g.es g.before in
+          let seen = Group.seen (seen_of head g.es) t.talker t.gsv in
+          g.reads ∙ read_next refused rule ended s (seen_of head g.es) at k e h p (next (some seen)) i (some seen) refl
 
       -- A line that is taken.
-      pub goes_on : (h' : Head) → h' ≡ head_of t r.gsv
-          → Going s stored left h' e (k + 1)
-      goes_on h' b = subst (λ (x : Head). Going s stored left x e (k + 1)) (sym b) (record {
-        es = g.es ++ used_of r.gsv;
-        reads = reads_on ∙ ap (λ (l : List Entry). read_from refused rule ended (seen_of (head_of t r.gsv) (l ++ used_of r.gsv)) (k + 1)
-            (cut_rest (drop e s))) g.before.0;
-        places = placed r.gsv is-sound g.es place sized.behind (omega (arith, sized.to-nine)) entries g.places;
+      pub goes_on : (stored : List Entry)
+          → stored ≡ take (4 * (k - 1)) entries ++ (t.gsv.entries ++ drop (4 * (k - 1) + 4) entries)
+          → Going s stored left (Some (head_of t.talker t.gsv)) e (k + 1)
+      goes_on stored b = record {
+        es = g.es ++ used_of t.gsv;
+        reads = reads_on ∙ ap (λ (l : List Entry). read_from refused rule ended
+            (seen_of (Some (head_of t.talker t.gsv)) (l ++ used_of t.gsv)) (k + 1) (cut_rest (drop e s))) g.before.0;
+        places = b ∙ placed t.gsv is-sound g.es (4 * (k - 1)) sized.behind (omega (arith, sized.to-nine)) entries g.places;
         before = (refl, is-taken.marks);
         long = st.kept ∙ g.long;
-        size = subst (λ (n : ℕ). Begun (head_of t r.gsv) (k + 1) n) (sym length-used) sized.after;
-      })
+        size = subst (λ (n : ℕ). Begun (head_of t.talker t.gsv) (k + 1) n) (sym length-used) sized.after;
+      }
         where
-          length-used : length (g.es ++ used_of r.gsv) ≡ length g.es + r.gsv.count
-          length-used = length-append g.es (used_of r.gsv)
+          length-used : length (g.es ++ used_of t.gsv) ≡ length g.es + t.gsv.count
+          length-used = length-append g.es (used_of t.gsv)
               ∙ ap (λ (n : ℕ). length g.es + n)
-              (used-length r.gsv is-sound g.es place sized.behind (omega (arith, sized.to-nine)))
+              (used-length t.gsv is-sound g.es (4 * (k - 1)) sized.behind (omega (arith, sized.to-nine)))
 
   -- The lines end, as they must or too soon.
-  end_by : Begun head k (length g.es) → (b : Bool) → eqb (head.lines + 1) k ≡ b
-      → end_if b head k entries ≡ sky_of (pick b (whole head.talker g.es) (refused 6 k 0))
-  end_by z false q = refl
-  end_by z true q =
-      let last = eqb-true (head.lines + 1) k q in
-      let all : head.satellites ≡ length g.es = omega (arith, last, z.least, z.announced, room head.satellites) in
-      ap (λ (n : ℕ). record {
-        no = 0;
-        line = 0;
-        field = 0;
-        talker = Of head.talker;
-        table = record { count = n; entries = entries };
-      }) all
-      ∙ ap (λ (l : List Entry). record {
-        no = 0;
-        line = 0;
-        field = 0;
-        talker = Of head.talker;
-        table = record { count = length g.es; entries = l };
-      }) g.places
+  end_by : (h : Head) → Begun h k (length g.es) → (b : Bool) → eqb (h.lines + 1) k ≡ b
+      → pick b (record { no = 0; line = 0; field = 0; talker = Some h.talker; table = record { count = h.satellites; entries = entries } })
+      (refused_sky 6 k 0) ≡ sky_of (pick b (whole h.talker g.es) (refused 6 k 0))
+  end_by h z false q = refl
+  end_by h z true q =
+      let last = eqb-true (h.lines + 1) k q in
+      let all : h.satellites ≡ length g.es = omega (arith, last, z.least, z.announced, room h.satellites) in
+      rw (all, g.places)
 
-  end_is : (b : Bool) → SizeIf b head k (length g.es)
-      → end_if (b && eqb (head.lines + 1) k) head k entries ≡ sky_of (ended (seen_if b head g.es) k)
+  end_is : (x : Option Head) → Size x k (length g.es) → sky_end x k entries ≡ sky_of (ended (seen_of x g.es) k)
   unfolding ended
-  end_is false z = refl
-  end_is true z = end_by z (eqb (head.lines + 1) k) refl
+  end_is None z = refl
+  end_is (Some h) z = end_by h z (eqb (h.lines + 1) k) refl
 
   pub ends : length s ≤ at → sky_end head k entries ≡ sky_of (group_of s)
-  ends h = end_is head.begun g.size ∙ ap sky_of (sym (g.reads ∙ read-end refused rule ended s (seen_of head g.es) at k h))
+  ends h = end_is head g.size ∙ ap sky_of (sym (g.reads ∙ read-end refused rule ended s (seen_of head g.es) at k h))

@@ -1,9 +1,10 @@
 -- How many entries a group has before each line: four a line, until all its satellites are there.
 use Prim.Native.Nat.{◌*◌, ◌+◌, ◌-◌, ◌≤◌, ℕ}
-use mathlib.Core.Bool.{◌&&◌, Bool, false, true}
+use mathlib.Core.Bool.{◌&&◌, true}
 use mathlib.Core.List.{List}
 use mathlib.Core.Path.{◌∙◌, ◌≡◌, ap, sym}
 use native.Mathlib.Omega.{arith}
+use Rattle.std.specs.Prelude.{None, Option, Some}
 use lib.Dec.{eqb, leb}
 use borrow.Author.Tests.{eqb-true, leb-true}
 use Rattle.digits.proofs.Bools.{and_left, and_right}
@@ -12,7 +13,7 @@ use Rattle.kind_gsv.specs.declared.Entry.{Entry}
 use Rattle.kind_gsv.specs.declared.Gsv.{Gsv}
 use Rattle.sky.specs.Group.{entries_at, follows, in_place, lines_for, same_talker}
 use Rattle.sky.proofs.Numbers.{entries-at, starts}
-use Rattle.sky_read.specs.Steps.{seen_if, seen_of, Sound}
+use Rattle.sky_read.specs.Steps.{seen_of, Sound}
 use Rattle.sky_read.specs.declared.Head.{Head}
 
 -- Before line k: no line yet, or k - 1 of the announced ones with the smaller of 4(k-1) and all satellites.
@@ -23,12 +24,9 @@ pub record Begun (h : Head) (k n : ℕ) : Type 0 where
   pub within : k ≤ h.lines + 1
   pub least : n ≡ 4 * (k - 1) - (4 * (k - 1) - h.satellites)
 
-abbrev pub SizeIf : Bool → Head → ℕ → ℕ → Type 0
-SizeIf false h k n = (k ≡ 1) × (n ≡ 0)
-SizeIf true h k n = Begun h k n
-
-abbrev pub Size : Head → ℕ → ℕ → Type 0
-Size h k n = SizeIf h.begun h k n
+abbrev pub Size : Option Head → ℕ → ℕ → Type 0
+Size None k n = (k ≡ 1) × (n ≡ 0)
+Size (Some h) k n = Begun h k n
 
 -- What a line in its place says.
 pub record InPlace (k : ℕ) (v : Gsv) : Type 0 where
@@ -49,7 +47,7 @@ in_place_lem k v e =
 
 -- The head after a line that was taken.
 abbrev pub head_of : Talker → Gsv → Head
-head_of t v = record { begun = true; talker = t; lines = v.lines; satellites = v.satellites }
+head_of t v = record { talker = t; lines = v.lines; satellites = v.satellites }
 
 -- A line that follows: it is one of nine, stands behind full lines, and the size is right after it.
 pub record Sized (k n : ℕ) (t : Talker) (v : Gsv) : Type 0 where
@@ -107,10 +105,7 @@ module _ (k n : ℕ) (t : Talker) (v : Gsv) (sound : Sound v) where
       sized (in_place_lem k v (and_right (eqb h.satellites v.satellites) _ f2)) (sym l ∙ z.announced ∙ ap lines_for s)
       (omega (arith, z.least, s))
 
-  pub follows-sized : (h : Head) (es : List Entry) → follows (seen_of h es) k t v ≡ true → Size h k n → Sized k n t v
+  pub follows-sized : (h : Option Head) (es : List Entry) → follows (seen_of h es) k t v ≡ true → Size h k n → Sized k n t v
   unfolding follows
-  follows-sized h es f z = go h.begun f z
-    where
-      go : (b : Bool) → follows (seen_if b h es) k t v ≡ true → SizeIf b h k n → Sized k n t v
-      go false f z = first-sized f z
-      go true f z = later-sized h f z
+  follows-sized None es f z = first-sized f z
+  follows-sized (Some h) es f z = later-sized h f z

@@ -2,16 +2,16 @@
 use Prim.Native.Nat.{ℕ}
 use mathlib.Core.Bool.{◌&&◌, Bool, false, true, true≢false}
 use mathlib.Core.List.{[], List}
-use mathlib.Core.Option.{Option, some}
-use mathlib.Core.Path.{◌∙◌, ◌≡◌, ap, refl, sym}
-use native.Mathlib.Omega.{arith}
+use mathlib.Core.Option as Math
+use mathlib.Core.Option.{some}
+use mathlib.Core.Path.{◌∙◌, ◌≡◌, ap, refl, subst, sym}
 use lib.Dec.{eqb, leb}
 use lib.ListN.{length}
+use Rattle.std.specs.Prelude.{Err, None, Ok, Option, Result, Some}
 use borrow.Author.Tests.{eqb-true}
 use Rattle.digits.specs.Pick.{pick}
-use Rattle.lines.specs.Reader.{next, Step, stop}
+use Rattle.lines.specs.Reader.{next, stop}
 use Rattle.address.specs.declared.Talker.{Talker}
-use Rattle.kind_gsv.specs.Blank.{blank_gsv}
 use Rattle.kind_gsv.specs.declared.Entry.{Entry}
 use Rattle.kind_gsv.specs.declared.Gsv.{Gsv}
 use Rattle.sentence.specs.Lines.{read_line}
@@ -19,19 +19,18 @@ use Rattle.sentence.specs.Numbers.{kind_of}
 use Rattle.sentence.specs.Sentence as S
 use Rattle.sentence.specs.Sentence.{Sentence}
 use Rattle.sky.specs.Group.{entries_at, entries_of, follows, gsv_rule, in_place, lines_for, repeats, rule, ruled, same_talker, Seen, seen}
-use Rattle.sky.specs.Group.{talker_no, used_of}
-use Rattle.sky_read.specs.Steps.{Before, Checks, fault_of, seen_if, seen_of, step_of, Steps}
+use Rattle.sky.specs.Group.{used_of}
+use Rattle.sky_read.specs.Steps.{Before, Checks, IsTaken, seen_of, Steps}
 use Rattle.sky_read.specs.declared.Head.{Head}
-use Rattle.sky_read.specs.declared.Next.{Next}
-use Rattle.sky_read.specs.declared.Next.TheVariants.{Stop, Taken}
-use Rattle.sky_read.specs.declared.Stepped.{Stepped}
+use Rattle.sky_read.specs.declared.Stop.{Stop}
+use Rattle.sky_read.specs.declared.Taken.{Taken}
 
-abbrev talker_in : Next → Talker → Talker
-talker_in (Taken t) u = t
-talker_in (Stop n f) u = u
+abbrev taken_in : Result Taken Stop → Taken → Taken
+taken_in (Ok t) u = t
+taken_in (Err s) u = u
 
-taken-same : {t u : Talker} → Taken t ≡ Taken u → t ≡ u
-taken-same {t} {u} q = ap (λ (x : Next). talker_in x t) q
+taken-same : {t u : Taken} → ◌≡◌ {A = Result Taken Stop} (Ok t) (Ok u) → t ≡ u
+taken-same {t} {u} q = ap (λ (x : Result Taken Stop). taken_in x t) q
 
 -- The entries of the line's own number are those of line k where it carries k.
 pub in-place-is : (k : ℕ) (v : Gsv)
@@ -46,28 +45,26 @@ in-place-is k v = go (eqb v.line k) refl
     go true e = ap (λ (n : ℕ). leb n v.lines && eqb v.count (entries_at v.satellites n)) (eqb-true v.line k e)
 
 -- Whether a line follows does not depend on the entries before it.
-pub follows-any : (h : Head) (es : List Entry) (k : ℕ) (t : Talker) (v : Gsv) → follows (seen_of h []) k t v ≡ follows (seen_of h es) k t v
+pub follows-any : (h : Option Head) (es : List Entry) (k : ℕ) (t : Talker) (v : Gsv)
+    → follows (seen_of h []) k t v ≡ follows (seen_of h es) k t v
 unfolding follows
-follows-any h es k t v = go h.begun
-  where
-    go : (b : Bool) → follows (seen_if b h []) k t v ≡ follows (seen_if b h es) k t v
-    go false = refl
-    go true = refl
+follows-any None es k t v = refl
+follows-any (Some h) es k t v = refl
 
 -- Line 1, and a later line.
-pub follows-first : (h : Head) (k : ℕ) (t : Talker) (v : Gsv) → h.begun ≡ false
+pub follows-first : {h : Option Head} (k : ℕ) (t : Talker) (v : Gsv) → h ≡ None
     → (eqb v.lines (lines_for v.satellites) && in_place k v) ≡ follows (seen_of h []) k t v
 unfolding follows
-follows-first h k t v e = rw e
+follows-first k t v e = rw e
 
-pub follows-later : (h : Head) (k : ℕ) (t : Talker) (v : Gsv) → h.begun ≡ true
-    → (eqb (talker_no h.talker) (talker_no t) &&
-    (eqb h.lines v.lines && (eqb h.satellites v.satellites && in_place k v))) ≡ follows (seen_of h []) k t v
-unfolding follows same_talker
-follows-later h k t v e = rw e
+pub follows-later : {h : Option Head} (f : Head) (k : ℕ) (t : Talker) (v : Gsv) → h ≡ Some f
+    → (same_talker f.talker t && (eqb f.lines v.lines && (eqb f.satellites v.satellites && in_place k v)))
+    ≡ follows (seen_of h []) k t v
+unfolding follows
+follows-later f k t v e = rw e
 
 -- What the rule says of a line that was read, by the sentence.
-module _ (q : Option Seen) (k : ℕ) (l : List ℕ) where
+module _ (q : Math.Option Seen) (k : ℕ) (l : List ℕ) where
   pub rule-refused : (n f : ℕ) → read_line l ≡ S.Refused n f → rule q k l ≡ stop n f
   unfolding rule
   rule-refused n f e = rw e
@@ -100,17 +97,17 @@ module _ (q : Option Seen) (k : ℕ) (l : List ℕ) where
   rule-other = other-six (read_line l)
 
 -- A line that ends the group.
-abbrev is_taken : Next → Bool
-is_taken (Taken t) = true
-is_taken (Stop n f) = false
+abbrev is_taken : Result Taken Stop → Bool
+is_taken (Ok t) = true
+is_taken (Err s) = false
 
-module _ (h : Head) (k : ℕ) (l before left : List ℕ) (kept : length left ≡ length before) where
-  pub steps-stop : (r : Stepped) (n f : ℕ) → r ≡ record { next = Stop n f; gsv = blank_gsv }
-      → ((es : List Entry) → Before h es before → rule (seen_of h es) k l ≡ stop n f) → Steps h k l before r left
-  steps-stop r n f e u = record {
+module _ (h : Option Head) (k : ℕ) (l before left : List ℕ) (kept : length left ≡ length before) where
+  pub steps-stop : (s : Stop) → ((es : List Entry) → Before h es before → rule (seen_of h es) k l ≡ stop s.no s.field)
+      → Steps h k l before (Err s) left
+  steps-stop s u = record {
     kept = kept;
-    ruled = λ es b. ap (λ (r : Stepped). step_of r.next (seen_of h es) r.gsv) e ∙ sym (u es b);
-    taken = λ es b t q. absurd (true≢false (sym (ap is_taken q) ∙ ap (λ (r : Stepped). is_taken r.next) e));
+    ruled = λ es b. sym (u es b);
+    taken = λ es b t q. absurd (true≢false (sym (ap is_taken q)));
   }
 
   module _ (t : Talker) (v : Gsv) (s : read_line l ≡ S.Gsv t v) where
@@ -127,32 +124,22 @@ module _ (h : Head) (k : ℕ) (l before left : List ℕ) (kept : length left ≡
           b.0
           ∙ ap (λ (x : Bool). pick f (pick x (stop 7 0) (next (some (seen (seen_of h es) t v)))) (stop 6 0)) (sym (c.finds es b.1))
 
-      fault-is : (f answer : Bool) (s : Step (Option Seen)) (n : ℕ) → n ≡ fault_of f answer → (n ≡ 0 → ⊥)
-          → pick f (pick answer (stop 7 0) s) (stop 6 0) ≡ stop n 0
-      fault-is false answer s n e z = ap (λ (x : ℕ). stop x 0) (sym e)
-      fault-is true true s n e z = ap (λ (x : ℕ). stop x 0) (sym e)
-      fault-is true false s n e z = absurd (z e)
+      -- It does not go with the lines before it.
+      pub steps-six : f ≡ false → Steps h k l before (Err (record { no = 6; field = 0 })) left
+      steps-six p = steps-stop (record { no = 6; field = 0 }) (λ es b. decided es b ∙ rw p)
 
-      fault-none : (f answer : Bool) (s : Step (Option Seen)) → fault_of f answer ≡ 0 → (f ≡ true)
-          × (pick f (pick answer (stop 7 0) s) (stop 6 0) ≡ s)
-      fault-none false answer s e = let z : ⊥ = omega arith in absurd z
-      fault-none true true s e = let z : ⊥ = omega arith in absurd z
-      fault-none true false s e = (refl, refl)
-
-      -- It ends the group.
-      pub rule-fault : (n : ℕ) → n ≡ fault_of f answer → (n ≡ 0 → ⊥) → (es : List Entry) → Before h es before
-          → rule (seen_of h es) k l ≡ stop n 0
-      rule-fault n e z es b = decided es b ∙ fault-is f answer (next (some (seen (seen_of h es) t v))) n e z
+      -- It repeats a satellite.
+      pub steps-seven : f ≡ true → answer ≡ true → Steps h k l before (Err (record { no = 7; field = 0 })) left
+      steps-seven p q = steps-stop (record { no = 7; field = 0 }) (λ es b. decided es b ∙ rw (p, q))
 
       -- It is taken.
-      pub steps-taken : fault_of f answer ≡ 0 → Steps h k l before (record { next = Taken t; gsv = v }) left
-      steps-taken a = record {
+      pub steps-taken : f ≡ true → answer ≡ false → Steps h k l before (Ok (record { talker = t; gsv = v })) left
+      steps-taken p q = record {
         kept = kept;
-        ruled = λ es b. sym (decided es b ∙ (fault-none f answer (next (some (seen (seen_of h es) t v))) a).1);
-        taken = λ es b u q. record {
-          read = s ∙ ap (λ (u : Talker). S.Gsv u v) (taken-same q);
-          fits = ap (λ (u : Talker). follows (seen_of h es) k u v) (sym (taken-same q)) ∙ sym (i ∙ follows-any h es k t v)
-              ∙ (fault-none f answer (stop 0 0) a).0;
+        ruled = λ es b. sym (decided es b ∙ rw (p, q));
+        taken = λ es b u z. subst (λ (x : Taken). IsTaken h k l x es left) (taken-same z) (record {
+          read = s;
+          fits = sym (i ∙ follows-any h es k t v) ∙ p;
           marks = c.marks es b.1;
-        };
+        });
       }

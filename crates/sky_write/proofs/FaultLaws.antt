@@ -7,8 +7,9 @@ use mathlib.Core.Path.{◌∙◌, ◌≡◌, ap, refl, subst, sym}
 use native.Mathlib.Numerals.{add-one}
 use native.Mathlib.Omega.{arith}
 use lib.Dec.{eqb, leb}
-use lib.ListN.{drop, drop_of_length-le, get_or, length, length-set, length-take, take}
-use lib.Seq.{drop-cons, get_or-take, length-take-le, take-suc}
+use Rattle.std.specs.List.{list_all}
+use lib.ListN.{drop, drop_of_length-le, get_or, length, length-set, take}
+use lib.Seq.{drop-cons, take-suc}
 use borrow.Author.Tests.{eq-eqb, le-ltb, lt-ltb, ne_eqb}
 use Rattle.frame.specs.Written.{refused, wrote}
 use Rattle.frame.specs.declared.Written.{Written}
@@ -107,41 +108,29 @@ module _ (i : ℕ) (e : Entry) (seen : List ℕ) {w : ℕ} (p : w ≡ entry_wron
         }
 
 -- The entries from place i on.
-module _ (es : List Entry) (n i : ℕ) (h : i < n) (long : n ≤ length es) (d : Entry) {a : Written}
-    (q : a ≡ entry_fault i (take i es) (get_or es i d)) where
-  first : fault_from i (take i es) (drop i (take n es)) ≡ or_else a
-      (fault_from (i + 1) (take i es ++ (get_or es i d ∷ [])) (drop (suc i) (take n es)))
+module _ (es : List Entry) (i : ℕ) (h : i < length es) (d : Entry) {a : Written} (q : a ≡ entry_fault i (take i es) (get_or es i d)) where
+  first : fault_from i (take i es) (drop i es) ≡ or_else a (fault_from (i + 1) (take i es ++ (get_or es i d ∷ [])) (drop (suc i) es))
   unfolding fault_from
-  first =
-      rw (drop-cons (take n es) i d (omega (arith, h, length-take-le n es long)), get_or-take n es i d h, q)
+  first = rw (drop-cons es i d h, q)
 
-  pub fault-stop : (a.no ≡ 0 → ⊥) → fault_from i (take i es) (drop i (take n es)) ≡ a
+  pub fault-stop : (a.no ≡ 0 → ⊥) → fault_from i (take i es) (drop i es) ≡ a
   fault-stop z = first ∙ rw (ne_eqb a.no 0 z)
 
-  pub fault-next : a.no ≡ 0 → fault_from i (take i es) (drop i (take n es)) ≡ fault_from (i + 1) (take (i + 1) es) (drop (i + 1) (take n es))
-  fault-next z = first ∙ rw (eq-eqb a.no 0 z, add-one i, take-suc es i d (omega (arith, h, long)))
+  pub fault-next : a.no ≡ 0 → fault_from i (take i es) (drop i es) ≡ fault_from (i + 1) (take (i + 1) es) (drop (i + 1) es)
+  fault-next z = first ∙ rw (eq-eqb a.no 0 z, add-one i, take-suc es i d h)
 
   pub marks-next : (left : List ℕ) → Marks (take i es ++ (get_or es i d ∷ [])) left → Marks (take (i + 1) es) left
-  marks-next left m = subst (λ (l : List Entry). Marks l left)
-      (sym (ap (λ (k : ℕ). take k es) (add-one i) ∙ take-suc es i d (omega (arith, h, long)))) m
+  marks-next left m = subst (λ (l : List Entry). Marks l left) (sym (ap (λ (k : ℕ). take k es) (add-one i) ∙ take-suc es i d h)) m
 
-pub fault-end : (es before : List Entry) (n i : ℕ) → n ≤ i → fault_from i before (drop i (take n es)) ≡ wrote 0
+pub fault-end : (es before : List Entry) (i : ℕ) → length es ≤ i → fault_from i before (drop i es) ≡ wrote 0
 unfolding fault_from
-fault-end es before n i h = rw (drop_of_length-le (take n es) {i = i} (omega (arith, h, length-take n es)))
+fault-end es before i h = rw (drop_of_length-le es h)
 
--- The places from i on.
-module _ (es : List Entry) (i : ℕ) (h : i < length es) (d : Entry) where
-  pub blank-stop : is_blank (get_or es i d) ≡ false → all_blank (drop i es) ≡ false
-  unfolding all_blank
-  blank-stop e = rw (drop-cons es i d h, e)
-
-  pub blank-next : is_blank (get_or es i d) ≡ true → all_blank (drop i es) ≡ all_blank (drop (i + 1) es)
-  unfolding all_blank
-  blank-next e = rw (drop-cons es i d h, e, add-one i)
-
-pub blank-end : (es : List Entry) (i : ℕ) → length es ≤ i → all_blank (drop i es) ≡ true
+-- The places that are not used.
+pub blank-all : (es : List Entry) → list_all is_blank es ≡ all_blank es
 unfolding all_blank
-blank-end es i h = rw (drop_of_length-le es h)
+blank-all [] = refl
+blank-all (e ∷ es) = ap (λ (b : Bool). is_blank e && b) (blank-all es)
 
 -- The tests of a table in their order.
 module _ (r : Table) where

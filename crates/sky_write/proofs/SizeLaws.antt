@@ -5,8 +5,8 @@ use mathlib.Core.List.{List}
 use mathlib.Core.Path.{◌≡◌, ap}
 use native.Mathlib.Numerals.{add-one}
 use native.Mathlib.Omega.{arith}
-use lib.ListN.{drop, drop_of_length-le, get_or, length, length-take, take}
-use lib.Seq.{drop-cons, get_or-take, length-take-le}
+use lib.ListN.{drop, drop_of_length-le, get_or, length}
+use lib.Seq.{drop-cons}
 use Rattle.kind_gsv.specs.declared.Entry.{Entry}
 use Rattle.sky_write.specs.Size.{entry_size, sizes}
 
@@ -18,10 +18,9 @@ pub entry-few : (e : Entry) → entry_size e ≤ 13
 unfolding entry_size
 entry-few e = omega (arith, value-few e.elevation.there 2, value-few e.azimuth.there 3, value-few e.signal.there 2)
 
-pub sizes-next : (es : List Entry) (n i : ℕ) → i < n → n ≤ length es → (d : Entry)
-    → sizes (drop i (take n es)) ≡ entry_size (get_or es i d) + sizes (drop (i + 1) (take n es))
-sizes-next es n i h long d =
-    rw (drop-cons (take n es) i d (omega (arith, h, length-take-le n es long)), get_or-take n es i d h, add-one i)
+pub sizes-next : (es : List Entry) (i : ℕ) → i < length es → (d : Entry)
+    → sizes (drop i es) ≡ entry_size (get_or es i d) + sizes (drop (i + 1) es)
+sizes-next es i h d = rw (drop-cons es i d h, add-one i)
 
-pub sizes-end : (es : List Entry) (n i : ℕ) → n ≤ i → sizes (drop i (take n es)) ≡ 0
-sizes-end es n i h = ap sizes (drop_of_length-le (take n es) {i = i} (omega (arith, h, length-take n es)))
+pub sizes-end : (es : List Entry) (i : ℕ) → length es ≤ i → sizes (drop i es) ≡ 0
+sizes-end es i h = ap sizes (drop_of_length-le es {i = i} h)

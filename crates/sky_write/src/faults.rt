@@ -38,14 +38,12 @@ fn used_fault(seen: &mut [u8], r: Table) -> Written
     requires { (r.count ≤ 36) × ((length seen.old ≡ 100) × Marks [] seen.old) }
     ensures { result ≡ fault_from 0 [] (take r.count r.entries) }
 {
-    let count = r.count;
-    let mut i: usize = 0;
-    while i < count {
-        let fault = entry_fault(seen, i, r.entries[i]);
+    let used = &r.entries[..r.count];
+    for (i, e) in used.iter().enumerate() {
+        let fault = entry_fault(seen, i, *e);
         if fault.no != 0 {
             return fault;
         }
-        i += 1;
     }
     frame::fault(0)
 }
@@ -54,14 +52,10 @@ fn used_fault(seen: &mut [u8], r: Table) -> Written
 pub fn rest_blank(r: Table) -> bool
     ensures { result ≡ all_blank (drop r.count r.entries) }
 {
-    let mut i = r.count;
-    while i < 36 {
-        if !kind_gsv::is_blank(r.entries[i]) {
-            return false;
-        }
-        i += 1;
-    }
-    true
+    r.entries
+        .iter()
+        .skip(r.count)
+        .all(|e| kind_gsv::is_blank(*e))
 }
 
 // Why a table is refused: 5 on line 0 for over 36 entries; 5 or 7 for the first entry that has a fault; then

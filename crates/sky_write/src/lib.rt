@@ -22,16 +22,14 @@ fn line_of(r: Table, k: u32) -> Gsv
     let lines = sky::lines_for(satellites);
     let count = sky::entries_at(satellites, k);
     let first = 4 * (k as usize - 1);
-    let e0 = r.entries[first];
-    let e1 = r.entries[first + 1];
-    let e2 = r.entries[first + 2];
-    let e3 = r.entries[first + 3];
+    let mut entries = [kind_gsv::blank::entry(); 4];
+    entries.copy_from_slice(&r.entries[first..first + 4]);
     Gsv {
         lines,
         line: k,
         satellites,
         count,
-        entries: [e0, e1, e2, e3],
+        entries,
     }
 }
 
@@ -43,12 +41,10 @@ fn put_lines(out: &mut [u8], t: Talker, r: Table) -> usize
 {
     let lines = sky::lines_for(r.count as u32);
     let mut at: usize = 0;
-    let mut k: u32 = 1;
-    while k <= lines {
+    for k in 1..=lines {
         let line = line_of(r, k);
         let written = kind_gsv::write(&mut out[at..], t, line);
         at += written.length;
-        k += 1;
     }
     at
 }

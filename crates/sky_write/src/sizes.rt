@@ -9,10 +9,7 @@ use sky::Table;
 fn value_size(there: bool, n: usize) -> usize
     ensures { result ≡ cond there n 0 }
 {
-    if there {
-        return n;
-    }
-    0
+    if there { n } else { 0 }
 }
 
 // The bytes of an entry, with the comma before each of its fields.
@@ -30,12 +27,10 @@ pub fn room(r: Table) -> usize
     requires { r.count ≤ 36 }
     ensures { result ≡ table_size r }
 {
-    let count = r.count;
-    let mut size = 18 * sky::lines_for(count as u32) as usize;
-    let mut i: usize = 0;
-    while i < count {
-        size += entry_size(r.entries[i]);
-        i += 1;
+    let used = &r.entries[..r.count];
+    let mut size = 18 * sky::lines_for(r.count as u32) as usize;
+    for e in used {
+        size += entry_size(*e);
     }
     size
 }

@@ -6,7 +6,7 @@ ghost use Rattle.tally.specs.Tally.{ended, nothing, one, pass_all, pass_one, plu
 
 // The count so far: whether a line was begun, how many bytes and how many rows of the file there were, and of the bytes how many
 // were passed over; lines cut short by a `$` or the end, and lines of over 82 bytes.
-#[derive(Clone, Copy)]
+#[derive(Clone, Copy, PartialEq, Eq, Debug, Default)]
 pub struct Tally {
     pub begun: bool,
     pub bytes: u64,
@@ -19,44 +19,34 @@ pub struct Tally {
 pub fn start() -> Tally
     ensures { result ≡ nothing }
 {
-    Tally {
-        begun: false,
-        bytes: 0,
-        rows: 0,
-        passed: 0,
-        short: 0,
-        long: 0,
-    }
+    Tally::default()
 }
 
 // The sum, or the last number of 64 bits where it is more.
 fn plus(n: u64, k: u64) -> u64
     ensures { result ≡ plus n k }
 {
-    if k <= u64::MAX - n { n + k } else { u64::MAX }
+    n.saturating_add(k)
 }
 
 fn one(b: bool) -> u64
     ensures { result ≡ one b }
 {
-    if b { 1 } else { 0 }
+    u64::from(b)
 }
 
 // 1 where `b` is the byte `c` and a line was begun.
 fn begun_at(t: Tally, b: u8, c: u8) -> u64
     ensures { result ≡ cond (eqb b c) (one t.begun) 0 }
 {
-    if b == c {
-        return one(t.begun);
-    }
-    0
+    if b == c { one(t.begun) } else { 0 }
 }
 
 fn pass_one(t: Tally, b: u8) -> Tally
     ensures { result ≡ pass_one t b }
 {
     Tally {
-        begun: (b == b'$') | ((b != b'\n') & t.begun),
+        begun: b == b'$' || (b != b'\n' && t.begun),
         bytes: plus(t.bytes, 1),
         rows: plus(t.rows, one(b == b'\n')),
         passed: plus(t.passed, 1),
@@ -69,13 +59,7 @@ fn pass_one(t: Tally, b: u8) -> Tally
 pub fn pass(first: Tally, s: &[u8]) -> Tally
     ensures { result ≡ pass_all first s.now }
 {
-    let mut t = first;
-    let mut i: usize = 0;
-    while i < s.len() {
-        t = pass_one(t, s[i]);
-        i += 1;
-    }
-    t
+    s.iter().fold(first, |t, b| pass_one(t, *b))
 }
 
 // After a line of `n` bytes that the finder gives out.
@@ -86,9 +70,8 @@ pub fn take(t: Tally, n: u64) -> Tally
         begun: false,
         bytes: plus(t.bytes, n),
         rows: plus(t.rows, 1),
-        passed: t.passed,
         short: plus(t.short, one(t.begun)),
-        long: t.long,
+        ..t
     }
 }
 
@@ -98,10 +81,7 @@ pub fn end(t: Tally) -> Tally
 {
     Tally {
         begun: false,
-        bytes: t.bytes,
-        rows: t.rows,
-        passed: t.passed,
         short: plus(t.short, one(t.begun)),
-        long: t.long,
+        ..t
     }
 }

@@ -2,7 +2,7 @@
 // room, leaves all other bytes, and answers the next place.
 #![tactic(auto)]
 
-ghost use Rattle.std.specs.Prelude.{◌%◌, ◌+◌, ◌≡◌, nat_abs};
+ghost use Rattle.std.specs.Prelude.{◌%◌, ◌+◌, ◌≡◌};
 ghost use Rattle.digits.specs.Sign.{sign_text};
 ghost use Rattle.put.specs.Wrote.{held, Puts};
 ghost use Rattle.text.specs.Numbers.{decimal_text, int_text};
@@ -25,22 +25,12 @@ pub fn put_number(out: &mut [u8], at: usize, n: u64) -> usize
     put::put(out, a, digit(n))
 }
 
-// A number without its sign.
-fn size(z: i64) -> u64
-    ensures { result ≡ nat_abs z }
-{
-    if z < 0 {
-        return (-(z + 1)) as u64 + 1;
-    }
-    z as u64
-}
-
 // The minus of a number that is less than zero.
 fn put_minus(out: &mut [u8], at: usize, z: i64) -> usize
     ensures { Puts (held at out.old) (sign_text z) (held result out.new) }
 {
     if z < 0 {
-        return put::put(out, at, 45);
+        return put::put(out, at, b'-');
     }
     at
 }
@@ -49,7 +39,7 @@ fn put_minus(out: &mut [u8], at: usize, z: i64) -> usize
 pub fn put_int(out: &mut [u8], at: usize, z: i64) -> usize
     ensures { Puts (held at out.old) (int_text z) (held result out.new) }
 {
-    let a0 = put::put(out, at, 32);
+    let a0 = put::put(out, at, b' ');
     let a1 = put_minus(out, a0, z);
-    put_number(out, a1, size(z))
+    put_number(out, a1, z.unsigned_abs())
 }

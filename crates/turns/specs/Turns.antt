@@ -1,8 +1,8 @@
 -- What the programs that read in turns do with their buffers.
-use Rattle.std.specs.Prelude.{ℕ, ◌-◌, ◌<◌, ◌≤◌, ◌≡◌, List, ◌++◌, Bool, false, Option, length, take, drop}
+use Rattle.std.specs.Prelude.{ℕ, ◌-◌, ◌<◌, ◌≤◌, ◌≡◌, List, ◌++◌, Bool, false, Option, Result, Ok, Err, length, take, drop}
 use Rattle.std.specs.Io.KnownBytes as Known
 use Rattle.turns.specs.declared.Came.{Came}
-use Rattle.turns.specs.declared.Came.TheVariants.{Bytes, End, Full, Failed}
+use Rattle.turns.specs.declared.Came.TheVariants.{Bytes, End, Full}
 
 -- The bytes from place a up to place e; none where e is not past a, and no more than there are.
 abbrev pub part : ℕ → ℕ → List ℕ → List ℕ
@@ -19,16 +19,16 @@ pub record Flushes (out : List ℕ) (place : ℕ) (answer : Bool) : Type 0 where
 
 -- What a read behind kept bytes can come to in a buffer of so many: more bytes than were kept and no more than it has room for, and
 -- full exactly where it had no room.
-abbrev pub Comes : ℕ → ℕ → Came → Type 0
-Comes kept room (Bytes n) = (kept < n) × (n ≤ room)
-Comes kept room End = kept < room
-Comes kept room Full = room ≤ kept
-Comes kept room (Failed e) = kept < room
+abbrev pub Comes : {E : Type 0} → ℕ → ℕ → Result Came E → Type 0
+Comes kept room (Ok (Bytes n)) = (kept < n) × (n ≤ room)
+Comes kept room (Ok End) = kept < room
+Comes kept room (Ok Full) = room ≤ kept
+Comes kept room (Err e) = kept < room
 
 -- What a read takes of a reader whose bytes are known: the bytes that came are its next, and stand behind those that were kept; nothing
 -- is left of it at its end; and else nothing is taken of it.
-abbrev pub Takes : ℕ → Option (List ℕ) → Option (List ℕ) → List ℕ → Came → Type 0
-Takes kept before behind buf (Bytes n) = Known.Consumes before behind (drop kept (take n buf))
-Takes kept before behind buf End = Known.IsAtEnd behind
-Takes kept before behind buf Full = Known.Keeps before behind
-Takes kept before behind buf (Failed e) = Known.Keeps before behind
+abbrev pub Takes : {E : Type 0} → ℕ → Option (List ℕ) → Option (List ℕ) → List ℕ → Result Came E → Type 0
+Takes kept before behind buf (Ok (Bytes n)) = Known.Consumes before behind (drop kept (take n buf))
+Takes kept before behind buf (Ok End) = Known.IsAtEnd behind
+Takes kept before behind buf (Ok Full) = Known.Keeps before behind
+Takes kept before behind buf (Err e) = Known.Keeps before behind

@@ -2,13 +2,13 @@
 // tell of a call of the system that failed.
 #![tactic(auto)]
 
-ghost use Rattle.std.specs.Prelude.{◌≡◌, OnOk, is_ok, length, take};
+ghost use Rattle.std.specs.Prelude.{◌≡◌, ◌-◌, OnOk, is_ok, length, ltb, take};
 ghost use Rattle.std.specs.Io.KnownBytes.{Appends};
 ghost use Rattle.turns.specs.Turns.{Keeps, Flushes, Comes, Takes};
 
 use std::env::FillError;
 use std::io;
-use std::io::{Read, Write};
+use std::io::{ErrorKind, Read, Write};
 use std::rt::Env;
 
 // Writes what `out` holds up to `place`, and answers whether all of it could be written, or else why not; a failure where
@@ -17,52 +17,51 @@ pub fn flush<W: Write>(to: &mut W, out: &[u8], place: usize) -> io::Result<()>
     ensures beyond { Flushes out.now place (is_ok result) }
     ensures bytes { OnOk result (Appends (W.contents to.old) (W.contents to.new) (take place out.now)) }
 {
-    if place <= out.len() {
-        return to.write_all(&out[0..place]);
+    if out.len() < place {
+        return Err(ErrorKind::InvalidInput.into());
     }
-    Err(io::Error::from(io::ErrorKind::InvalidInput))
+    to.write_all(&out[..place])
+}
+
+// Whether fewer than `room` bytes are left of `out` from `place` on.
+pub fn is_full(out: &[u8], place: usize, room: usize) -> bool
+    ensures { result ≡ ltb (length out.now - place) room }
+{
+    out.len().saturating_sub(place) < room
 }
 
 // Moves the bytes of `buf` from `a` up to `e` to its start, and answers how many they are.
 pub fn keep(buf: &mut [u8], a: usize, e: usize) -> usize
     ensures { Keeps a e buf.old result buf.new }
 {
-    let mut i: usize = 0;
-    let mut from = a;
-    while from < e {
-        if buf.len() <= from {
-            return i;
-        }
-        buf[i] = buf[from];
-        i += 1;
-        from += 1;
+    let e = e.min(buf.len());
+    if e <= a {
+        return 0;
     }
-    i
+    buf.copy_within(a..e, 0);
+    e - a
 }
 
-// What a read came to: how many bytes the buffer holds now; the end of the input; a buffer that was full; or a failure,
-// and why.
-#[derive(Drop)]
+// What a read that did not fail came to: how many bytes the buffer holds now; the end of the input; or a buffer that was full.
+#[derive(Clone, Copy, PartialEq, Eq, Debug)]
 pub enum Came {
     Bytes(usize),
     End,
     Full,
-    Failed(io::Error),
 }
 
 // Reads once, behind the bytes of `buf` that were kept.
-pub fn read_more<R: Read>(from: &mut R, buf: &mut [u8], kept: usize) -> Came
+pub fn read_more<R: Read>(from: &mut R, buf: &mut [u8], kept: usize) -> io::Result<Came>
     ensures came { Comes kept (length buf.old) result }
     ensures kept { take kept buf.new ≡ take kept buf.old }
     ensures takes { Takes kept (R.remaining from.old) (R.remaining from.new) buf.new result }
 {
     if buf.len() <= kept {
-        return Came::Full;
+        return Ok(Came::Full);
     }
-    match from.read(&mut buf[kept..]) {
-        Err(e) => Came::Failed(e),
-        Ok(0) => Came::End,
-        Ok(n) => Came::Bytes(kept + n),
+    match from.read(&mut buf[kept..])? {
+        0 => Ok(Came::End),
+        n => Ok(Came::Bytes(kept + n)),
     }
 }
 

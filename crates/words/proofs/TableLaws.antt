@@ -1,4 +1,10 @@
 -- The rows of a table from byte i on are what that byte puts and the rows from the next one on.
+use mathlib.Core.Logic.{◌⊎◌, inl, inr}
+use Rattle.words.specs.declared.table.Mode.{Mode}
+use Rattle.words.specs.declared.table.Mode.TheVariants as S
+use Rattle.words.specs.Table.{number}
+use mathlib.Core.Bool.{false}
+use lib.Dec.{eqb}
 use Prim.Native.Nat.{ℕ, zero, suc, ◌+◌, ◌-◌, ◌≤◌, ◌<◌}
 use mathlib.Core.Path.{◌≡◌, refl}
 use mathlib.Core.List.{List}
@@ -44,3 +50,12 @@ module _ (ns : List ℤ) where
   unfolding entries_text wrote
   entries-end zero from g h = refl
   entries-end (suc n) from g h = let z : ⊥ = omega arith in absurd z
+
+-- In a name or a unit no form is met, and before a unit that is passed over nothing is.
+pub no-form : {q : Mode} → (q ≡ S.Name) ⊎ (q ≡ S.Passed) → eqb (number q) 1 ≡ false
+no-form (inl e) = rw e
+no-form (inr e) = rw e
+
+pub not-passed : {q : Mode} → (q ≡ S.Name) ⊎ (q ≡ S.Form) → eqb (number q) 2 ≡ false
+not-passed (inl e) = rw e
+not-passed (inr e) = rw e

@@ -2,6 +2,14 @@
 -- put for numbers in the same order; the unit of a value that was not sent is passed over.
 use Rattle.std.specs.Prelude.{ℕ, List, [], ◌∷◌, ◌++◌, Bool, cond, ◌&&◌, ◌||◌, not, eqb, ℤ, drop}
 use Rattle.words.specs.Forms.{taken_by, is_sent, value_text}
+use Rattle.words.specs.declared.table.Mode.{Mode}
+use Rattle.words.specs.declared.table.Mode.TheVariants as S
+
+-- The number of a state.
+abbrev pub number : Mode → ℕ
+number S.Name = 0
+number S.Form = 1
+number S.Passed = 2
 
 -- A byte b of a table is met in one of three states q: 0 in a name or a unit, 1 at a form, 2 in a unit that is passed over. Whether it
 -- puts nothing, the text that it puts, the state that it leaves, and how many numbers it takes.

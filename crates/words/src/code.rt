@@ -42,16 +42,12 @@ fn put_hex(out: &mut [u8], at: usize, width: u32, v: u32) -> usize
 fn width(f: u8) -> u32
     ensures { result ≡ width_of f }
 {
-    if f == b'x' {
-        return 4;
+    match f {
+        b'x' => 4,
+        b'r' => 6,
+        b'g' => 8,
+        _ => 0,
     }
-    if f == b'r' {
-        return 6;
-    }
-    if f == b'g' {
-        return 8;
-    }
-    0
 }
 
 // A mask, or a letter or digit with what it means.

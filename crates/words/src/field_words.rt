@@ -9,10 +9,7 @@ use crate::nth;
 fn first(s: &[u8]) -> u8
     ensures { result ≡ get_or s.now 0 0 }
 {
-    if s.len() == 0 {
-        return 0;
-    }
-    s[0]
+    s.first().copied().unwrap_or(0)
 }
 
 // The form that a letter stands for, behind a comma; nothing for a byte that stands for none.

@@ -32,21 +32,18 @@ fn small(f: u8) -> u8
 pub(crate) fn taken(f: u8) -> usize
     ensures { result ≡ taken_by f }
 {
-    let before = marks(f);
-    let s = small(f);
-    if s == b'd' {
-        return before + 3;
-    }
-    if s == b'p' {
-        return before + 2;
-    }
-    before + 1
+    let numbers = match small(f) {
+        b'd' => 3,
+        b'p' => 2,
+        _ => 1,
+    };
+    marks(f) + numbers
 }
 
 pub(crate) fn is_sent(f: u8, numbers: &[i64]) -> bool
     ensures { result ≡ is_sent f numbers.now }
 {
-    (f < b'a') | numbers::there_at(numbers, 0)
+    f < b'a' || numbers::there_at(numbers, 0)
 }
 
 // The place `k` further on; none is past the end.
@@ -54,10 +51,7 @@ pub(crate) fn past(numbers: &[i64], from: usize, k: usize) -> usize
     requires { from ≤ length numbers.now }
     ensures { (result ≤ length numbers.now) × (drop result numbers.now ≡ drop k (drop from numbers.now)) }
 {
-    if numbers.len() - from < k {
-        return numbers.len();
-    }
-    from + k
+    from + k.min(numbers.len() - from)
 }
 
 // The value that stands first in `numbers`, behind its mark.

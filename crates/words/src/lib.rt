@@ -16,7 +16,7 @@ ghost use Rattle.words.specs.Words.{entries_text, talkers_of, words_text, kind_t
 fn few(count: u32) -> usize
     ensures { result ≡ min 4 count }
 {
-    if count < 4 { count as usize } else { 4 }
+    count.min(4) as usize
 }
 
 // The rows of the satellites of a GSV.
@@ -25,13 +25,9 @@ fn put_entries(out: &mut [u8], at: usize, numbers: &[i64], count: u32) -> usize
         (held result out.new) }
 {
     let mut a = at;
-    let mut left = few(count);
-    let mut from: usize = 5;
-    while 0 < left {
+    for i in 0..few(count) {
         let rows = b"satellite: %N\nelevation: %n degrees\nazimuth: %n degrees\nsignal: %n dB\n";
-        a = table::put_table(out, a, rows, numbers, from);
-        left -= 1;
-        from += 7;
+        a = table::put_table(out, a, rows, numbers, 5 + 7 * i);
     }
     a
 }

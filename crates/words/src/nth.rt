@@ -7,17 +7,15 @@ fn start(s: &[u8], d: u8, n: usize) -> usize
     ensures { (result ≤ length s.now) × (drop result s.now ≡ behind d n s.now) }
 {
     let mut k = n;
-    let mut i: usize = 0;
-    while i < s.len() {
+    for (i, &b) in s.iter().enumerate() {
         if k == 0 {
             return i;
         }
-        if s[i] == d {
+        if b == d {
             k -= 1;
         }
-        i += 1;
     }
-    i
+    s.len()
 }
 
 // Text `n` of `s`, counted from 0; nothing where there are not so many.

@@ -1,121 +1,41 @@
--- `pir_of` meets its contract, as `kind_of` does: the rows of the table one after the other.
-use mathlib.Core.Option.{none}
-use mathlib.Core.List.{List}
-use Prim.Native.Nat.{ℕ}
-use mathlib.Core.Path.{◌≡◌, sym, ◌∙◌, ap, refl}
-use lib.ListN.{drop}
-use Rattle.address.specs.Address.{look_up, pirs, maker}
-use Rattle.address.proofs.Tables.{hit, miss}
+use native.Mathlib.Omega.{arith}
+use Rattle.std.proofs.Common.{rules}
+use Rattle.address.specs.declared.Pir.TheVariants.{Ea, Er, Pa, Pr, Sa, Sr, Ta, Tr}
+use Rattle.address.proofs.Tables.{no_pir, orders}
 use Rattle.address.proofs.pir_of.Goals as goal
 
-pub returns-then-same_bytes : goal.returns-then-same_bytes
-returns-then-same_bytes c = sym (ap maker (hit _ _ _ _ c.same_bytes.ensures c.if-same_bytes.true))
+pub returns-in-PIRPR : goal.returns-in-PIRPR
+returns-in-PIRPR c = orders _ Pr (omega arith) (search rules)
 
-pub returns-then-same_bytes-2 : goal.returns-then-same_bytes-2
-returns-then-same_bytes-2 c =
-    let not-pr : look_up (c.args.a.now) pirs ≡ look_up (c.args.a.now) (drop 1 pirs) =
-    miss _ _ _ _ c.same_bytes.ensures c.if-same_bytes.false in
-    sym (ap maker (not-pr ∙ hit _ _ _ _ c.same_bytes-2.ensures c.if-same_bytes-2.true))
+pub returns-in-PIRTR : goal.returns-in-PIRTR
+returns-in-PIRTR c = orders _ Tr (omega arith) (search rules)
 
-pub returns-then-same_bytes-3 : goal.returns-then-same_bytes-3
-returns-then-same_bytes-3 c =
-    let not-pr : look_up (c.args.a.now) pirs ≡ look_up (c.args.a.now) (drop 1 pirs) =
-    miss _ _ _ _ c.same_bytes.ensures c.if-same_bytes.false in
-    let not-tr : look_up (c.args.a.now) pirs ≡ look_up (c.args.a.now) (drop 2 pirs) =
-    not-pr ∙ miss _ _ _ _ c.same_bytes-2.ensures c.if-same_bytes-2.false in
-    sym (ap maker (not-tr ∙ hit _ _ _ _ c.same_bytes-3.ensures c.if-same_bytes-3.true))
+pub returns-in-PIRSR : goal.returns-in-PIRSR
+returns-in-PIRSR c = orders _ Sr (omega arith) (search rules)
 
-pub returns-then-same_bytes-4 : goal.returns-then-same_bytes-4
-returns-then-same_bytes-4 c =
-    let not-pr : look_up (c.args.a.now) pirs ≡ look_up (c.args.a.now) (drop 1 pirs) =
-    miss _ _ _ _ c.same_bytes.ensures c.if-same_bytes.false in
-    let not-tr : look_up (c.args.a.now) pirs ≡ look_up (c.args.a.now) (drop 2 pirs) =
-    not-pr ∙ miss _ _ _ _ c.same_bytes-2.ensures c.if-same_bytes-2.false in
-    let not-sr : look_up (c.args.a.now) pirs ≡ look_up (c.args.a.now) (drop 3 pirs) =
-    not-tr ∙ miss _ _ _ _ c.same_bytes-3.ensures c.if-same_bytes-3.false in
-    sym (ap maker (not-sr ∙ hit _ _ _ _ c.same_bytes-4.ensures c.if-same_bytes-4.true))
+pub returns-in-PIRER : goal.returns-in-PIRER
+returns-in-PIRER c = orders _ Er (omega arith) (search rules)
 
-pub returns-then-same_bytes-5 : goal.returns-then-same_bytes-5
-returns-then-same_bytes-5 c =
-    let not-pr : look_up (c.args.a.now) pirs ≡ look_up (c.args.a.now) (drop 1 pirs) =
-    miss _ _ _ _ c.same_bytes.ensures c.if-same_bytes.false in
-    let not-tr : look_up (c.args.a.now) pirs ≡ look_up (c.args.a.now) (drop 2 pirs) =
-    not-pr ∙ miss _ _ _ _ c.same_bytes-2.ensures c.if-same_bytes-2.false in
-    let not-sr : look_up (c.args.a.now) pirs ≡ look_up (c.args.a.now) (drop 3 pirs) =
-    not-tr ∙ miss _ _ _ _ c.same_bytes-3.ensures c.if-same_bytes-3.false in
-    let not-er : look_up (c.args.a.now) pirs ≡ look_up (c.args.a.now) (drop 4 pirs) =
-    not-sr ∙ miss _ _ _ _ c.same_bytes-4.ensures c.if-same_bytes-4.false in
-    sym (ap maker (not-er ∙ hit _ _ _ _ c.same_bytes-5.ensures c.if-same_bytes-5.true))
+pub returns-in-PIRPA : goal.returns-in-PIRPA
+returns-in-PIRPA c = orders _ Pa (omega arith) (search rules)
 
-pub returns-then-same_bytes-6 : goal.returns-then-same_bytes-6
-returns-then-same_bytes-6 c =
-    let not-pr : look_up (c.args.a.now) pirs ≡ look_up (c.args.a.now) (drop 1 pirs) =
-    miss _ _ _ _ c.same_bytes.ensures c.if-same_bytes.false in
-    let not-tr : look_up (c.args.a.now) pirs ≡ look_up (c.args.a.now) (drop 2 pirs) =
-    not-pr ∙ miss _ _ _ _ c.same_bytes-2.ensures c.if-same_bytes-2.false in
-    let not-sr : look_up (c.args.a.now) pirs ≡ look_up (c.args.a.now) (drop 3 pirs) =
-    not-tr ∙ miss _ _ _ _ c.same_bytes-3.ensures c.if-same_bytes-3.false in
-    let not-er : look_up (c.args.a.now) pirs ≡ look_up (c.args.a.now) (drop 4 pirs) =
-    not-sr ∙ miss _ _ _ _ c.same_bytes-4.ensures c.if-same_bytes-4.false in
-    let not-pa : look_up (c.args.a.now) pirs ≡ look_up (c.args.a.now) (drop 5 pirs) =
-    not-er ∙ miss _ _ _ _ c.same_bytes-5.ensures c.if-same_bytes-5.false in
-    sym (ap maker (not-pa ∙ hit _ _ _ _ c.same_bytes-6.ensures c.if-same_bytes-6.true))
+pub returns-in-PIRTA : goal.returns-in-PIRTA
+returns-in-PIRTA c = orders _ Ta (omega arith) (search rules)
 
-pub returns-then-same_bytes-7 : goal.returns-then-same_bytes-7
-returns-then-same_bytes-7 c =
-    let not-pr : look_up (c.args.a.now) pirs ≡ look_up (c.args.a.now) (drop 1 pirs) =
-    miss _ _ _ _ c.same_bytes.ensures c.if-same_bytes.false in
-    let not-tr : look_up (c.args.a.now) pirs ≡ look_up (c.args.a.now) (drop 2 pirs) =
-    not-pr ∙ miss _ _ _ _ c.same_bytes-2.ensures c.if-same_bytes-2.false in
-    let not-sr : look_up (c.args.a.now) pirs ≡ look_up (c.args.a.now) (drop 3 pirs) =
-    not-tr ∙ miss _ _ _ _ c.same_bytes-3.ensures c.if-same_bytes-3.false in
-    let not-er : look_up (c.args.a.now) pirs ≡ look_up (c.args.a.now) (drop 4 pirs) =
-    not-sr ∙ miss _ _ _ _ c.same_bytes-4.ensures c.if-same_bytes-4.false in
-    let not-pa : look_up (c.args.a.now) pirs ≡ look_up (c.args.a.now) (drop 5 pirs) =
-    not-er ∙ miss _ _ _ _ c.same_bytes-5.ensures c.if-same_bytes-5.false in
-    let not-ta : look_up (c.args.a.now) pirs ≡ look_up (c.args.a.now) (drop 6 pirs) =
-    not-pa ∙ miss _ _ _ _ c.same_bytes-6.ensures c.if-same_bytes-6.false in
-    sym (ap maker (not-ta ∙ hit _ _ _ _ c.same_bytes-7.ensures c.if-same_bytes-7.true))
+pub returns-in-PIRSA : goal.returns-in-PIRSA
+returns-in-PIRSA c = orders _ Sa (omega arith) (search rules)
 
-pub returns-then-same_bytes-8 : goal.returns-then-same_bytes-8
-returns-then-same_bytes-8 c =
-    let not-pr : look_up (c.args.a.now) pirs ≡ look_up (c.args.a.now) (drop 1 pirs) =
-    miss _ _ _ _ c.same_bytes.ensures c.if-same_bytes.false in
-    let not-tr : look_up (c.args.a.now) pirs ≡ look_up (c.args.a.now) (drop 2 pirs) =
-    not-pr ∙ miss _ _ _ _ c.same_bytes-2.ensures c.if-same_bytes-2.false in
-    let not-sr : look_up (c.args.a.now) pirs ≡ look_up (c.args.a.now) (drop 3 pirs) =
-    not-tr ∙ miss _ _ _ _ c.same_bytes-3.ensures c.if-same_bytes-3.false in
-    let not-er : look_up (c.args.a.now) pirs ≡ look_up (c.args.a.now) (drop 4 pirs) =
-    not-sr ∙ miss _ _ _ _ c.same_bytes-4.ensures c.if-same_bytes-4.false in
-    let not-pa : look_up (c.args.a.now) pirs ≡ look_up (c.args.a.now) (drop 5 pirs) =
-    not-er ∙ miss _ _ _ _ c.same_bytes-5.ensures c.if-same_bytes-5.false in
-    let not-ta : look_up (c.args.a.now) pirs ≡ look_up (c.args.a.now) (drop 6 pirs) =
-    not-pa ∙ miss _ _ _ _ c.same_bytes-6.ensures c.if-same_bytes-6.false in
-    let not-sa : look_up (c.args.a.now) pirs ≡ look_up (c.args.a.now) (drop 7 pirs) =
-    not-ta ∙ miss _ _ _ _ c.same_bytes-7.ensures c.if-same_bytes-7.false in
-    sym (ap maker (not-sa ∙ hit _ _ _ _ c.same_bytes-8.ensures c.if-same_bytes-8.true))
+pub returns-in-PIREA : goal.returns-in-PIREA
+returns-in-PIREA c = orders _ Ea (omega arith) (search rules)
 
--- No row is left behind the last one.
-none_left : (s : List ℕ) → look_up s (drop 8 pirs) ≡ none
-unfolding look_up
-none_left s = refl
+pub returns-in_default-2 : goal.returns-in_default-2
+returns-in_default-2 c = no_pir _ (search rules)
 
-pub returns : goal.returns
-returns c =
-    let not-pr : look_up (c.args.a.now) pirs ≡ look_up (c.args.a.now) (drop 1 pirs) =
-    miss _ _ _ _ c.same_bytes.ensures c.if-same_bytes.false in
-    let not-tr : look_up (c.args.a.now) pirs ≡ look_up (c.args.a.now) (drop 2 pirs) =
-    not-pr ∙ miss _ _ _ _ c.same_bytes-2.ensures c.if-same_bytes-2.false in
-    let not-sr : look_up (c.args.a.now) pirs ≡ look_up (c.args.a.now) (drop 3 pirs) =
-    not-tr ∙ miss _ _ _ _ c.same_bytes-3.ensures c.if-same_bytes-3.false in
-    let not-er : look_up (c.args.a.now) pirs ≡ look_up (c.args.a.now) (drop 4 pirs) =
-    not-sr ∙ miss _ _ _ _ c.same_bytes-4.ensures c.if-same_bytes-4.false in
-    let not-pa : look_up (c.args.a.now) pirs ≡ look_up (c.args.a.now) (drop 5 pirs) =
-    not-er ∙ miss _ _ _ _ c.same_bytes-5.ensures c.if-same_bytes-5.false in
-    let not-ta : look_up (c.args.a.now) pirs ≡ look_up (c.args.a.now) (drop 6 pirs) =
-    not-pa ∙ miss _ _ _ _ c.same_bytes-6.ensures c.if-same_bytes-6.false in
-    let not-sa : look_up (c.args.a.now) pirs ≡ look_up (c.args.a.now) (drop 7 pirs) =
-    not-ta ∙ miss _ _ _ _ c.same_bytes-7.ensures c.if-same_bytes-7.false in
-    let not-ea : look_up (c.args.a.now) pirs ≡ look_up (c.args.a.now) (drop 8 pirs) =
-    not-sa ∙ miss _ _ _ _ c.same_bytes-8.ensures c.if-same_bytes-8.false in
-    sym (ap maker (not-ea ∙ none_left c.args.a.now))
+pub returns-in_default-3 : goal.returns-in_default-3
+returns-in_default-3 c = no_pir _ (search rules)
+
+pub returns-in_default-4 : goal.returns-in_default-4
+returns-in_default-4 c = no_pir _ (search rules)
+
+pub returns-in_default-5 : goal.returns-in_default-5
+returns-in_default-5 c = no_pir _ (search rules)

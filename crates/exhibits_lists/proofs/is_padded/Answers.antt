@@ -1,11 +1,12 @@
-use borrow.Author.Tests.{le-leb, lt-leb}
+use Rattle.std.proofs.Common.{arith}
+use Rattle.std.proofs.lemmas.Bool.Decides.{nat_tests}
 use Rattle.exhibits_lists.specs.Lists.{is_padded}
 use Rattle.exhibits_lists.proofs.is_padded.Goals as goal
 
-pub returns-then-s-lt2 : goal.returns-then-s-lt2
+pub returns-then-s-ge2 : goal.returns-then-s-ge2
 unfolding is_padded
-returns-then-s-lt2 c = rw (lt-leb _ _ c.if-s-lt2.true)
+returns-then-s-ge2 c = grind (arith, nat_tests)
 
-pub returns : goal.returns
+pub returns-else-s-ge2 : goal.returns-else-s-ge2
 unfolding is_padded
-returns c = rw (le-leb _ _ c.if-s-lt2.false)
+returns-else-s-ge2 c = grind (arith, nat_tests)

@@ -8,7 +8,3 @@ use Rattle.exhibits_lists.proofs.read_row.Goals as goal
 pub slice_bounds-body-end : goal.slice_bounds-body-end
 slice_bounds-body-end c = let i : c.body_length-n.result ≤ length c.args.s.now = rw c.body_length-n.ensures
     (body-within c.args.s.now) in search rules
-
-pub returns : goal.returns
-returns c = c.body.ensures ∙ body-front c.args.s.now c.body_length-n.result
-    c.body_length-n.ensures

@@ -1,5 +1,6 @@
 -- `address_refusal` meets its contract: a line that passes has a body, whose address decides.
 use mathlib.Core.Path.{◌≡◌, sym, ◌∙◌, ap}
+use mathlib.Core.Logic.{inl, inr}
 use native.Mathlib.Omega.{arith}
 use borrow.Author.Rules.{rules}
 use lib.ListN.{length}
@@ -21,13 +22,10 @@ pub returns-in-Standard : goal.returns-in-Standard
 returns-in-Standard c =
     let decided : unknown_no c.address_of-address.result ≡ address_refusal c.args.line.now =
     address-refused _ _ c.line_refusal-no.ensures c.if-no-ne0.false _ c.address_of-address.ensures in
-    sym (ap unknown_no c.in-Standard.is) ∙ decided
-
-pub returns-in-Maker : goal.returns-in-Maker
-returns-in-Maker c =
-    let decided : unknown_no c.address_of-address.result ≡ address_refusal c.args.line.now =
-    address-refused _ _ c.line_refusal-no.ensures c.if-no-ne0.false _ c.address_of-address.ensures in
-    sym (ap unknown_no c.in-Maker.is) ∙ decided
+    elim c.in-Standard.is [
+      | inl w ↦ sym (ap unknown_no w.2) ∙ decided
+      | inr w ↦ sym (ap unknown_no w.1) ∙ decided
+    ]
 
 pub returns-in-Unknown : goal.returns-in-Unknown
 returns-in-Unknown c =

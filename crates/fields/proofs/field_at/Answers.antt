@@ -15,6 +15,7 @@ use Rattle.line.specs.Ends.{ends_from}
 use Rattle.fields.specs.FieldN.{address_refusal}
 use Rattle.fields.proofs.Refusing.{address_line, not-addressed, no-zeroth, past-last, few, low, placed}
 use Rattle.fields.proofs.field_at.Goals.{Else-refusal-ne0}
+use Rattle.fields.proofs.field_at.Goals.{then-n-lt1-via-then-n-lt1, then-n-lt1-via-else-n-lt1+then-count-n}
 use Rattle.fields.proofs.field_at.Goals as goal
 
 known : (c : Else-refusal-ne0) → address_refusal c.args.line.now ≡ 0
@@ -39,17 +40,17 @@ module _ (l : List ℕ) (n count : ℕ) (a : address_refusal l ≡ 0) (one : 1 �
 
 pub returns-then-refusal-ne0 : goal.returns-then-refusal-ne0
 returns-then-refusal-ne0 c =
-    not-addressed c.args.line.now c.args.n _ c.address_refusal-refusal.ensures c.if-refusal-ne0.true
+    c.refused.ensures ∙ not-addressed c.args.line.now c.args.n _ c.address_refusal-refusal.ensures c.if-refusal-ne0.true
 
 pub returns-then-n-lt1 : goal.returns-then-n-lt1
 returns-then-n-lt1 c =
-    no-zeroth c.args.line.now c.args.n (known (goal.at.returns-then-n-lt1 c).Else-refusal-ne0) c.if-n-lt1.true
-
-pub returns-then-count-n : goal.returns-then-count-n
-returns-then-count-n c =
+    let a = known (goal.at.returns-then-n-lt1 c).Else-refusal-ne0 in
     let counted : c.places-count.result ≡ length (fields_of (body_of c.args.line.now)) =
     c.places-count.ensures.fields ∙ rw body-part in
-    past-last c.args.line.now c.args.n (known (goal.at.returns-then-count-n c).Else-refusal-ne0) (omega arith) (omega (arith, counted))
+    c.refused-then-n-lt1.ensures ∙ elim c.then-n-lt1.branch [
+      | then-n-lt1-via-then-n-lt1 w ↦ no-zeroth c.args.line.now c.args.n a w.if-n-lt1.true
+      | then-n-lt1-via-else-n-lt1+then-count-n w ↦ past-last c.args.line.now c.args.n a (omega arith) (omega (arith, counted))
+    ]
 
 pub returns : goal.returns
 returns c =

@@ -1,5 +1,5 @@
 -- `places` meets its contract: the ends stored so far, with those of what is left of the body, are all of them.
-use Prim.Native.Nat.{◌≤◌, ◌+◌, ◌-◌}
+use Prim.Native.Nat.{◌≤◌, ◌+◌}
 use mathlib.Core.Path.{◌≡◌}
 use lib.ListN.{length, drop}
 use lib.Seq.{sets}
@@ -8,8 +8,5 @@ use Rattle.fields.proofs.places.Given as goal
 
 abbrev pub invariant-loop-i : goal.invariant-loop-i
 invariant-loop-i l =
-    (l.i ≤ length l.s) × (l.n ≤ l.i) × (length l.p ≡ length l.initial.p) × (l.n + length (ends_from l.i (drop l.i l.s)) ≡ length (ends_from 0 l.s))
+    (l.n ≤ l.i) × (l.n + length (ends_from l.i (drop l.i l.s)) ≡ length (ends_from 0 l.s))
     × (sets l.p l.n (ends_from l.i (drop l.i l.s)) ≡ sets l.initial.p 0 (ends_from 0 l.s))
-
-abbrev pub decreases-loop-i : goal.decreases-loop-i
-decreases-loop-i l = length l.s - l.i

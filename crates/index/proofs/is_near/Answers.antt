@@ -9,14 +9,11 @@ use Rattle.index.proofs.is_near.Goals as goal
 pub returns-then-s-lt3 : goal.returns-then-s-lt3
 returns-then-s-lt3 c = λ e. let z : ◌≡◌ {A = ℕ} 0 1 = cc in let n : ⊥ = omega arith in absurd n
 
-pub returns-then-s-at : goal.returns-then-s-at
-returns-then-s-at c = λ e. let z : ◌≡◌ {A = ℕ} 0 1 = cc in let n : ⊥ = omega arith in absurd n
-
 pub returns : goal.returns
 returns c = λ e.
     let small = small-three (get_or c.args.s.now c.args.at 0) (get_or c.args.s.now (c.args.at + 1) 0) (get_or c.args.s.now (c.args.at + 2) 0) e in
     record {
-      inside = omega (arith, c.if-s-lt3.false, c.if-s-at.false);
+      inside = omega arith;
       first = small.0;
       second = small.1.0;
       third = small.1.1;

@@ -17,7 +17,7 @@ shape_of-out-then-left-lt128 c = c.put.auto.out ∙ c.loop-n.invariant.1.0
 pub returns-then-left-lt128 : goal.returns-then-left-lt128
 unfolding sevens
 returns-then-left-lt128 c = record {
-  is = put_last c.loop-n.n
+  is = put_last c.loop-n._n
       c.loop-n.left c.loop-n-test.true
       c.if-left-lt128.true c.put.ensures ∙
       c.loop-n.invariant.1.1;
@@ -28,7 +28,7 @@ loop-n-preserved c = (
   omega arith,
   (
     c.put-place.auto.out ∙ c.loop-n.invariant.1.0,
-    put-more c.loop-n.n c.loop-n.left
+    put-more c.loop-n._n c.loop-n.left
         c.loop-n-test.true c.if-left-lt128.false
         c.put-place.ensures ∙ c.loop-n.invariant.1.1,
   ),
@@ -40,6 +40,6 @@ shape_of-out c = c.loop-n.invariant.1.0
 pub returns : goal.returns
 unfolding sevens
 returns c = record {
-  is = put-none (held c.loop-n.place c.loop-n.out) c.loop-n.n c.loop-n.left
+  is = put-none (held c.loop-n.place c.loop-n.out) c.loop-n._n c.loop-n.left
       c.loop-n-test.false ∙ c.loop-n.invariant.1.1;
 }

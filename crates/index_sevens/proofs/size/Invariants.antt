@@ -6,6 +6,3 @@ use Rattle.index_sevens.proofs.size.Given as goal
 
 abbrev pub invariant-loop-n : goal.invariant-loop-n
 invariant-loop-n l = (l.n ≤ 4) × (length (groups 5 l.v) ≡ l.n + length (groups (5 - l.n) l.left))
-
-abbrev pub decreases-loop-n : goal.decreases-loop-n
-decreases-loop-n l = 4 - l.n

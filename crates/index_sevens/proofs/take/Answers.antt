@@ -11,19 +11,19 @@ returns-then-s-at c = first-none c.args.s.now c.args.at c.if-s-at.true
 
 pub returns-then-b-lt128 : goal.returns-then-b-lt128
 returns-then-b-lt128 c = first-value c.args.s.now c.args.at
-    c.if-s-at.false c.wide-b.result c.wide-b.ensures c.if-b-lt128.true
+    c.if-s-at.false c.from-b.result c.from-b.ensures c.if-b-lt128.true
 
 pub take_more-requires : goal.take_more-requires
 take_more-requires c = omega
-    (arith, c.wide-b.ensures, c.type_inv.s c.args.at)
+    (arith, c.from-b.ensures, c.type_inv.s c.args.at)
 
 pub returns : goal.returns
-returns c = let byte : c.wide-b.result < 256 = omega (
+returns c = let byte : c.from-b.result < 256 = omega (
   arith,
-  c.wide-b.ensures,
+  c.from-b.ensures,
   c.type_inv.s c.args.at,
 ) in
     c.take_more.ensures ∙ ap (taken_at (length c.args.s.now))
     (first_more c.args.s.now
     c.args.at c.if-s-at.false
-    c.wide-b.result c.wide-b.ensures c.if-b-lt128.false byte)
+    c.from-b.result c.from-b.ensures c.if-b-lt128.false byte)

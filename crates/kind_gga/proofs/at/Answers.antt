@@ -5,9 +5,9 @@ use Rattle.kind_gga.proofs.at.Goals as goal
 pub returns : goal.returns
 unfolding gga_layout gga_row
 returns c =
-    rw c.maybe.ensures
-    (rw c.place.ensures
+    rw c.at.ensures
+    (rw c.at-2.ensures
     (rw c.whole_at.ensures
-    (rw (c.maybe-2.ensures, c.number.ensures)
-    (rw (c.signed.ensures, c.signed-2.ensures, c.number-2.ensures)
-    (rw c.maybe-3.ensures)))))
+    (rw (c.at-3.ensures, c.at-4.ensures)
+    (rw (c.at-5.ensures, c.at-6.ensures, c.at-7.ensures)
+    (rw c.at-8.ensures)))))

@@ -35,5 +35,5 @@ returns c =
       ← c.near-w6.ensures,
       ← c.near-w2.ensures,
       ← c.near-w1.ensures,
-    ) c.if-w1-ne0.false) (rw (c.kept.ensures, c.placed.ensures, c.kept-2.ensures, c.number.ensures, c.signed.ensures)
-    (rw (c.signed-2.ensures, c.number-2.ensures, c.kept-3.ensures)))
+    ) c.if-w1-ne0.false) (rw (c.into.ensures, c.into-2.ensures, c.into-3.ensures, c.into-4.ensures, c.into-5.ensures)
+    (rw (c.into-6.ensures, c.into-7.ensures, c.into-8.ensures)))

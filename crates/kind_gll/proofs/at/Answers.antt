@@ -5,5 +5,5 @@ use Rattle.kind_gll.proofs.at.Goals as goal
 pub returns : goal.returns
 unfolding gll_layout gll_row
 returns c =
-    rw (c.place.ensures, c.maybe.ensures, c.whole_at.ensures)
+    rw (c.at.ensures, c.at-2.ensures, c.whole_at.ensures)
     (rw c.whole_at-2.ensures)

@@ -17,4 +17,4 @@ returns c =
       ← c.near-w6.ensures,
       ← c.near-w5.ensures,
       ← c.near-w1.ensures,
-    ) c.if-w1-ne0.false) (rw (c.placed.ensures, c.kept.ensures))
+    ) c.if-w1-ne0.false) (rw (c.into.ensures, c.into-2.ensures))

@@ -6,5 +6,5 @@ pub returns : goal.returns
 unfolding gsa_layout
 returns c =
     rw (c.whole_at.ensures, c.whole_at-2.ensures)
-    (rw (c.twelve_at.ensures, c.number.ensures, c.number-2.ensures)
-    (rw c.number-3.ensures))
+    (rw (c.twelve_at.ensures, c.at.ensures, c.at-2.ensures)
+    (rw c.at-3.ensures))

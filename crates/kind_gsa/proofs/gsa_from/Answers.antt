@@ -12,5 +12,5 @@ returns-then-w1-ne0 c =
 pub returns : goal.returns
 unfolding gsa_from
 returns c =
-    tells_as c.lay.ensures (rw (← c.near-w2.ensures, ← c.near-w1.ensures, eq-eqb _ _ c.if-w1-ne0.false, c.number.ensures)
-    (rw (c.number-2.ensures, c.number-3.ensures)))
+    tells_as c.lay.ensures (rw (← c.near-w2.ensures, ← c.near-w1.ensures, eq-eqb _ _ c.if-w1-ne0.false, c.into.ensures)
+    (rw (c.into-2.ensures, c.into-3.ensures)))

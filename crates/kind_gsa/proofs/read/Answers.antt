@@ -23,21 +23,26 @@ by_parts : (out : List ℤ) (t : Talker) (field : ℕ → List ℕ)
 unfolding read_by answer_by gsa_row gsa_from twelve_of
 by_parts out t field = refl
 
-pub returns-then-n-ne17 : goal.returns-then-n-ne17
+pub returns-then-f-ne17 : goal.returns-then-f-ne17
 unfolding gsa_row
-returns-then-n-ne17 c = tells-count _ _ _ _ _ c.refuse.ensures c.if-n-ne17.true
+returns-then-f-ne17 c = tells-count _ _ _ _ _ c.refuse.ensures c.if-f-ne17.true
 
 pub returns : goal.returns
 returns c =
     tells_as c.gsa_from.ensures (rw (
-      c.if-n-ne17.false,
+      c.if-f-ne17.false,
       c.active_in-active.ensures,
       c.near-w15.ensures,
       c.near-w16.ensures,
       c.near-w17.ensures,
-      c.number_in-vdop.ensures,
-      c.number_in-hdop.ensures,
-      c.number_in-pdop.ensures,
-      c.exact_in-fix.ensures,
-      c.letter_in-selection.ensures,
+      c.number-vdop.ensures,
+      c.number-hdop.ensures,
+      c.number-pdop.ensures,
+      c.exact-fix.ensures,
+      c.letter-selection.ensures,
+      c.at.ensures.holds,
+      c.at-2.ensures.holds,
+      c.at-3.ensures.holds,
+      c.at-4.ensures.holds,
+      c.at-5.ensures.holds,
     ) (by_parts _ _ _))

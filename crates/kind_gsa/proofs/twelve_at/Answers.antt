@@ -1,14 +1,10 @@
--- `twelve_at` meets its contract: each value is the one at its place.
+-- Each is the one at its place.
+use Rattle.std.proofs.Common.{◌*◌, ◌+◌, rules}
+use Rattle.std.proofs.lemmas.List.FromFn.{fill_by_all}
+use Rattle.form.specs.Numbers.{maybe_layout}
+use Rattle.form.specs.Values.{no_maybe}
 use Rattle.kind_gsa.proofs.twelve_at.Goals as goal
 
 pub returns : goal.returns
 returns c =
-    rw c.maybe.ensures
-    (rw c.maybe-2.ensures
-    (rw c.maybe-3.ensures
-    (rw c.maybe-4.ensures
-    (rw c.maybe-5.ensures
-    (rw c.maybe-6.ensures
-    (rw (c.maybe-7.ensures, c.maybe-8.ensures)
-    (rw (c.maybe-9.ensures, c.maybe-10.ensures, c.maybe-11.ensures)
-    (rw c.maybe-12.ensures))))))))
+    fill_by_all (λ k. maybe_layout.at c.args.n.now (3 + 2 * k)) c.loop-i.s 12 no_maybe c.loop-i.invariant.0 (search rules)

@@ -7,6 +7,6 @@ use Rattle.kind_gsa.proofs.wrong.Goals as goal
 pub returns : goal.returns
 unfolding gsa_wrong fault_by gsa_row
 returns c =
-    c.near.ensures ∙ rw (c.letter.ensures, c.near-w2.ensures, c.within.ensures, c.first_six-w3.ensures)
-    (rw (c.last_six.ensures, c.near-w15.ensures, c.maybe-3.ensures, c.near-w16.ensures, c.maybe-2.ensures, c.near-w17.ensures)
+    c.near.ensures ∙ rw (c.letter.ensures, c.near-w2.ensures, c.within.ensures, c.satellites_wrong-w3.ensures)
+    (rw (c.near-w15.ensures, c.maybe-3.ensures, c.near-w16.ensures, c.maybe-2.ensures, c.near-w17.ensures)
     (rw c.maybe.ensures))

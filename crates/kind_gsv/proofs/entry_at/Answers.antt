@@ -3,5 +3,5 @@ use Rattle.kind_gsv.proofs.entry_at.Goals as goal
 
 pub returns : goal.returns
 returns c =
-    rw (c.whole_at.ensures, c.maybe_at.ensures, c.maybe_at-2.ensures)
-    (rw c.maybe_at-3.ensures)
+    rw (c.whole_at.ensures, c.at.ensures, c.at-2.ensures)
+    (rw c.at-3.ensures)

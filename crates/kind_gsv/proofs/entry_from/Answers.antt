@@ -10,4 +10,4 @@ returns-then-wrong-ne0 c = rw (← c.first_of-wrong.ensures, ne_eqb _ _ c.if-wro
 pub returns : goal.returns
 unfolding entry_from entry_at
 returns c =
-    rw (← c.first_of-wrong.ensures, eq-eqb _ _ c.if-wrong-ne0.false, c.kept.ensures, c.kept-2.ensures, c.kept-3.ensures)
+    rw (← c.first_of-wrong.ensures, eq-eqb _ _ c.if-wrong-ne0.false, c.into.ensures, c.into-2.ensures, c.into-3.ensures)

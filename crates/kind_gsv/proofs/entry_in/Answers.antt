@@ -10,5 +10,6 @@ returns-then-not-used c = rw (c.if-not-used.true, c.entry.ensures)
 pub returns : goal.returns
 unfolding entry_form
 returns c =
-    c.entry_from.ensures ∙ rw (c.if-not-used.false, c.fixed_in-signal.ensures, c.fixed_in-azimuth.ensures)
-    (rw (c.fixed_in-elevation.ensures, c.exact_in-number.ensures))
+    c.entry_from.ensures ∙ rw (c.if-not-used.false, c.fixed-signal.ensures, c.fixed-azimuth.ensures)
+    (rw (c.fixed-elevation.ensures, c.exact-number.ensures)
+    (rw (c.at.ensures.holds, c.at-2.ensures.holds, c.at-3.ensures.holds, c.at-4.ensures.holds)))

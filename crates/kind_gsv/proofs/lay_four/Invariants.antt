@@ -1,5 +1,4 @@
 -- The values before place i are stored; the laws stand in slots.
-use Prim.Native.Nat.{◌-◌}
 use Rattle.kind_gsv.specs.Blank.{blank_entry}
 use Rattle.kind_gsv.proofs.Numbers.{lawful-entry}
 use Rattle.numbers.proofs.Laying.{Stored}
@@ -7,6 +6,3 @@ use Rattle.kind_gsv.proofs.lay_four.Given as goal
 
 abbrev pub invariant-loop-i : goal.invariant-loop-i
 invariant-loop-i l = Stored lawful-entry blank_entry l.s l.initial.out l.i l.out
-
-abbrev pub decreases-loop-i : goal.decreases-loop-i
-decreases-loop-i l = 4 - l.i

@@ -30,4 +30,4 @@ returns c =
       ← c.near-w2.ensures,
       ← c.near-w1.ensures,
     ) c.if-w1-ne0.false)
-    (rw (c.kept.ensures, c.placed.ensures, c.knots.ensures, c.number.ensures, c.dated.ensures, c.signed.ensures))
+    (rw (c.into.ensures, c.into-2.ensures, c.into-3.ensures, c.into-4.ensures, c.into-5.ensures, c.into-6.ensures))

@@ -5,5 +5,5 @@ use Rattle.kind_vtg.proofs.at.Goals as goal
 pub returns : goal.returns
 unfolding vtg_layout vtg_row
 returns c =
-    rw (c.number.ensures, c.number-2.ensures)
-    (rw (c.knots.ensures, c.kmh.ensures, c.whole_at.ensures))
+    rw (c.at.ensures, c.at-2.ensures)
+    (rw (c.at-3.ensures, c.at-4.ensures, c.whole_at.ensures))

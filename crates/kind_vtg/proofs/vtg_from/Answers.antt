@@ -31,4 +31,4 @@ returns c =
       ← c.near-w3.ensures,
       ← c.near-w2.ensures,
       ← c.near-w1.ensures,
-    ) c.if-w1-ne0.false) (rw (c.number.ensures, c.number-2.ensures, c.knots.ensures, c.kmh.ensures))
+    ) c.if-w1-ne0.false) (rw (c.into.ensures, c.into-2.ensures, c.into-3.ensures, c.into-4.ensures))

@@ -4,4 +4,4 @@ use Rattle.kind_zda.proofs.at.Goals as goal
 
 pub returns : goal.returns
 unfolding zda_layout zda_row
-returns c = rw (c.maybe.ensures, c.date.ensures, c.zone.ensures)
+returns c = rw (c.at.ensures, c.at-2.ensures, c.at-3.ensures)

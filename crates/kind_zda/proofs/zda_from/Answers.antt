@@ -13,4 +13,4 @@ pub returns : goal.returns
 unfolding zda_row
 returns c =
     tells-right _ _ _ _ _ c.lay.ensures (rw (← c.near-w5.ensures, ← c.near-w2.ensures, ← c.near-w1.ensures) c.if-w1-ne0.false)
-    (rw (c.kept.ensures, c.dated.ensures, c.zoned.ensures))
+    (rw (c.into.ensures, c.into-2.ensures, c.into-3.ensures))

@@ -1,21 +1,20 @@
-use mathlib.Core.Path.{refl, sym, ◌∙◌}
-use native.Mathlib.Omega.{arith}
-use Rattle.line_flaw.proofs.Laws.{forbidden-end, forbidden-here, forbidden-next}
+use mathlib.Core.Path.{◌∙◌, sym}
+use Rattle.std.proofs.Common.{rules, tests}
+use Rattle.std.proofs.lemmas.Iterator.{YieldsList-from_slice}
+use Rattle.std.proofs.lemmas.Iterator.Adapters.{position_from-zero}
+use Rattle.std.proofs.lemmas.Iterator.Search.{position_from_yields_List}
+use Rattle.std.proofs.lemmas.Option.{MatchOption-at_none, MatchOption-at_some}
+use Rattle.line_flaw.proofs.Laws.{forbidden-at, is_forbidden}
 use Rattle.line_flaw.proofs.forbidden_in.Goals as goal
 
-pub loop-i-init : goal.loop-i-init
-loop-i-init c = (omega arith, refl)
+pub returns-in-Some : goal.returns-in-Some
+returns-in-Some c =
+    let e = position_from_yields_List is_forbidden _ _ _ c.in-Some.ensures.ran (YieldsList-from_slice c.args.s.now (cc)) (λ x b q k. search (rules, tests))
+    ∙ position_from-zero is_forbidden c.args.s.now in
+    MatchOption-at_some _ _ _ (sym e) (forbidden-at 2 0 c.args.s.now)
 
-pub returns-then-not-may_stand : goal.returns-then-not-may_stand
-returns-then-not-may_stand c =
-    let e = sym c.may_stand.ensures ∙ c.if-not-may_stand.true in
-    sym (forbidden-here _ _ c.loop-i-test.true e)
-    ∙ c.loop-i.invariant.1
-
-pub loop-i-preserved : goal.loop-i-preserved
-loop-i-preserved c =
-    let e = sym c.may_stand.ensures ∙ c.if-not-may_stand.false in
-    (omega arith, sym (forbidden-next _ _ c.loop-i-test.true e) ∙ c.loop-i.invariant.1)
-
-pub returns : goal.returns
-returns c = sym (forbidden-end _ _ c.loop-i-test.false) ∙ c.loop-i.invariant.1
+pub returns-in-None : goal.returns-in-None
+returns-in-None c =
+    let e = position_from_yields_List is_forbidden _ _ _ c.in-None.ensures.ran (YieldsList-from_slice c.args.s.now (cc)) (λ x b q k. search (rules, tests))
+    ∙ position_from-zero is_forbidden c.args.s.now in
+    MatchOption-at_none _ _ (sym e) (forbidden-at 2 0 c.args.s.now)

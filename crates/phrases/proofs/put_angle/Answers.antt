@@ -5,5 +5,5 @@ use Rattle.phrases.proofs.put_angle.Goals as goal
 
 pub returns : goal.returns
 unfolding angle_words
-returns c = c.put_counted-a0.ensures ⨾ c.put_number-a1.ensures ⨾
+returns c = c.put_counted-a0.ensures ⨾ (rw c.from.ensures at c.put_number-a1.ensures) ⨾
     (c.put-a2.ensures ⨾ c.put_four.ensures)

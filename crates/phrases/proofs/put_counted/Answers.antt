@@ -5,5 +5,5 @@ use Rattle.phrases.proofs.put_counted.Goals as goal
 
 pub returns : goal.returns
 unfolding counted
-returns c = c.put_number-a.ensures ⨾
+returns c = (rw c.from.ensures at c.put_number-a.ensures) ⨾
     (rw c.pick.ensures at c.put_bytes.ensures)

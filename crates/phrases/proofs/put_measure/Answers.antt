@@ -1,54 +1,44 @@
 -- By the letter of the form.
 use mir.Syntax.{w32}
 use mir.Facts.{to_z-of_z}
-use borrow.Author.Tests.{eq-eqb, ne_eqb}
-use Rattle.phrases.specs.Phrases.{measure_text}
+use native.Mathlib.Omega.{arith}
 use borrow.Author.Rules.{rules}
+use borrow.Author.Tests.{ne_eqb}
+use Rattle.phrases.specs.Phrases.{measure_text}
 use Rattle.phrases.proofs.put_measure.Goals as goal
 
-pub returns-then-f-eq110 : goal.returns-then-f-eq110
+pub returns-in-110 : goal.returns-in-110
 unfolding measure_text
-returns-then-f-eq110 c =
-    rw (eq-eqb _ _ c.if-f-eq110.true) (rw c.whole_at-u.ensures at c.put_number.ensures)
+returns-in-110 c = rw c.in-110.is (rw (c.from.ensures, c.whole_at-u.ensures) at c.put_number.ensures)
 
-pub returns-then-f-eq107 : goal.returns-then-f-eq107
+pub returns-in-107 : goal.returns-in-107
 unfolding measure_text
-returns-then-f-eq107 c =
-    rw (ne_eqb _ _ c.if-f-eq110.false, eq-eqb _ _ c.if-f-eq107.true) (rw c.whole_at-u.ensures at c.put_number-then-f-eq107.ensures)
+returns-in-107 c = rw c.in-107.is (rw c.whole_at-u.ensures at c.put_number-in-107.ensures)
 
-pub returns-then-f-eq116 : goal.returns-then-f-eq116
+pub returns-in-116 : goal.returns-in-116
 unfolding measure_text
-returns-then-f-eq116 c =
-    rw (ne_eqb _ _ c.if-f-eq110.false, ne_eqb _ _ c.if-f-eq107.false, eq-eqb _ _ c.if-f-eq116.true)
-    (rw c.whole_at-u.ensures at c.put_clock.ensures)
+returns-in-116 c = rw c.in-116.is (rw c.whole_at-u.ensures at c.put_clock.ensures)
 
-pub returns-then-f-eq100 : goal.returns-then-f-eq100
+pub returns-in-100 : goal.returns-in-100
 unfolding measure_text
-returns-then-f-eq100 c =
-    rw (ne_eqb _ _ c.if-f-eq110.false, ne_eqb _ _ c.if-f-eq107.false, ne_eqb _ _ c.if-f-eq116.false, eq-eqb _ _ c.if-f-eq100.true)
-    (rw (c.whole_at-u.ensures, c.whole_at-v.ensures, c.whole_at-w.ensures) at c.put_date.ensures)
+returns-in-100 c =
+    rw c.in-100.is (rw (c.whole_at-u.ensures, c.whole_at-month.ensures, c.whole_at-year.ensures) at c.put_date.ensures)
 
-pub returns-then-f-eq112 : goal.returns-then-f-eq112
+pub returns-in-112 : goal.returns-in-112
 unfolding measure_text
-returns-then-f-eq112 c =
+returns-in-112 c =
     let lat = to_z-of_z {w = w32} {z = c.signed_at-z.result} (search rules) in
-    let lon = to_z-of_z {w = w32} {z = c.signed_at-lon.result} (search rules) in
-    rw (
-      ne_eqb _ _ c.if-f-eq110.false,
-      ne_eqb _ _ c.if-f-eq107.false,
-      ne_eqb _ _ c.if-f-eq116.false,
-      ne_eqb _ _ c.if-f-eq100.false,
-      eq-eqb _ _ c.if-f-eq112.true,
-    ) (rw (lat, c.signed_at-z.ensures, lon, c.signed_at-lon.ensures) at c.put_place.ensures)
+    let lon = to_z-of_z {w = w32} {z = c.signed_at.result} (search rules) in
+    rw c.in-112.is (rw (lat, c.signed_at-z.ensures, lon, c.signed_at.ensures) at c.put_place.ensures)
 
-pub returns : goal.returns
+pub returns-in_default : goal.returns-in_default
 unfolding measure_text
-returns c =
+returns-in_default c =
     let z = to_z-of_z {w = w32} {z = c.signed_at-z.result} (search rules) in
     rw (
-      ne_eqb _ _ c.if-f-eq110.false,
-      ne_eqb _ _ c.if-f-eq107.false,
-      ne_eqb _ _ c.if-f-eq116.false,
-      ne_eqb _ _ c.if-f-eq100.false,
-      ne_eqb _ _ c.if-f-eq112.false,
+      ne_eqb c.args.f 110 (λ e. omega arith),
+      ne_eqb c.args.f 107 (λ e. omega arith),
+      ne_eqb c.args.f 116 (λ e. omega arith),
+      ne_eqb c.args.f 100 (λ e. omega arith),
+      ne_eqb c.args.f 112 (λ e. omega arith),
     ) (rw (z, c.signed_at-z.ensures) at c.put_signed.ensures)

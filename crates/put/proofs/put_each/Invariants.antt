@@ -1,13 +1,8 @@
--- The bytes before place i are put: what is left, put from there, is all of it put from the start.
-use Prim.Native.Nat.{◌≤◌, ◌-◌}
+-- The bytes before the index are put: what is left, put from there, is all of it put from the start.
 use mathlib.Core.Path.{◌≡◌}
-use lib.ListN.{length, drop}
+use lib.ListN.{drop}
 use Rattle.put.specs.Wrote.{held, wrote}
 use Rattle.put.proofs.put_each.Given as goal
 
-abbrev pub invariant-loop-i : goal.invariant-loop-i
-invariant-loop-i l = (l.i ≤ length l.s)
-    × ((length l.out ≡ length l.initial.out) × (wrote (held l.place l.out) (drop l.i l.s) ≡ wrote (held l.at l.initial.out) l.s))
-
-abbrev pub decreases-loop-i : goal.decreases-loop-i
-decreases-loop-i l = length l.s - l.i
+abbrev pub invariant-loop-b : goal.invariant-loop-b
+invariant-loop-b l = wrote (held l.place l.out) (drop l.b-index l.s) ≡ wrote (held l.at l.initial.out) l.s

@@ -1,48 +1,36 @@
 -- By the number.
-use borrow.Author.Tests.{eq-eqb, ne_eqb}
+use native.Mathlib.Omega.{arith}
+use borrow.Author.Tests.{ne_eqb}
 use Rattle.reasons.specs.Reasons.{reason_text}
 use Rattle.reasons.proofs.put_reason.Goals as goal
 
-pub returns-then-no-eq1 : goal.returns-then-no-eq1
+pub returns-in-1 : goal.returns-in-1
 unfolding reason_text
-returns-then-no-eq1 c =
-    rw (eq-eqb _ 1 c.if-no-eq1.true) (rw c.flaw_of.ensures at c.put_flaw.ensures)
+returns-in-1 c = rw c.in-1.is (rw c.flaw_of.ensures at c.put_flaw.ensures)
 
-pub returns-then-no-eq2 : goal.returns-then-no-eq2
+pub returns-in-2 : goal.returns-in-2
 unfolding reason_text
-returns-then-no-eq2 c =
-    rw (ne_eqb _ 1 c.if-no-eq1.false, eq-eqb _ 2 c.if-no-eq2.true) (rw c.body_of.ensures at c.put_digits.ensures)
+returns-in-2 c = rw c.in-2.is (rw c.body_of.ensures at c.put_digits.ensures)
 
-pub returns-then-no-eq3 : goal.returns-then-no-eq3
+pub returns-in-3 : goal.returns-in-3
 unfolding reason_text
-returns-then-no-eq3 c =
-    rw (ne_eqb _ 1 c.if-no-eq1.false, ne_eqb _ 2 c.if-no-eq2.false, eq-eqb _ 3 c.if-no-eq3.true)
-    (rw c.body_of-then-no-eq3.ensures at c.put_unknown.ensures)
+returns-in-3 c = rw c.in-3.is (rw c.body_of-in-3.ensures at c.put_unknown.ensures)
 
-pub returns-then-no-eq4 : goal.returns-then-no-eq4
+pub returns-in-4 : goal.returns-in-4
 unfolding reason_text
-returns-then-no-eq4 c =
-    rw (ne_eqb _ 1 c.if-no-eq1.false, ne_eqb _ 2 c.if-no-eq2.false, ne_eqb _ 3 c.if-no-eq3.false, eq-eqb _ 4 c.if-no-eq4.true)
-    (rw c.body_of-then-no-eq4.ensures at c.put_count.ensures)
+returns-in-4 c = rw c.in-4.is (rw c.body_of-in-4.ensures at c.put_count.ensures)
 
-pub returns-then-no-eq5 : goal.returns-then-no-eq5
+pub returns-in-5 : goal.returns-in-5
 unfolding reason_text
-returns-then-no-eq5 c =
+returns-in-5 c = rw c.in-5.is c.put_wrong.ensures
+
+pub returns-in_default : goal.returns-in_default
+unfolding reason_text
+returns-in_default c =
     rw (
-      ne_eqb _ 1 c.if-no-eq1.false,
-      ne_eqb _ 2 c.if-no-eq2.false,
-      ne_eqb _ 3 c.if-no-eq3.false,
-      ne_eqb _ 4 c.if-no-eq4.false,
-      eq-eqb _ 5 c.if-no-eq5.true,
-    ) c.put_wrong.ensures
-
-pub returns : goal.returns
-unfolding reason_text
-returns c =
-    rw (
-      ne_eqb _ 1 c.if-no-eq1.false,
-      ne_eqb _ 2 c.if-no-eq2.false,
-      ne_eqb _ 3 c.if-no-eq3.false,
-      ne_eqb _ 4 c.if-no-eq4.false,
-      ne_eqb _ 5 c.if-no-eq5.false,
+      ne_eqb c.args.no 1 (λ e. omega arith),
+      ne_eqb c.args.no 2 (λ e. omega arith),
+      ne_eqb c.args.no 3 (λ e. omega arith),
+      ne_eqb c.args.no 4 (λ e. omega arith),
+      ne_eqb c.args.no 5 (λ e. omega arith),
     ) c.put_refusal.ensures

@@ -1,7 +1,12 @@
 -- Both tests are those of the definition.
+use Rattle.std.proofs.Common.{rules}
 use Rattle.receiver_numbers.specs.Numbers.{said}
 use Rattle.receiver_numbers.proofs.are_said.Goals as goal
 
-pub returns : goal.returns
+pub returns-then-numbers-ge11 : goal.returns-then-numbers-ge11
 unfolding said
-returns c = rw c.is_whole_at.ensures
+returns-then-numbers-ge11 c = search rules
+
+pub returns-else-numbers-ge11 : goal.returns-else-numbers-ge11
+unfolding said
+returns-else-numbers-ge11 c = search rules

@@ -10,4 +10,4 @@ returns-then-no-eq0 c =
 pub returns : goal.returns
 returns c =
     as-text (was-refused c.args.no c.args.field c.if-no-eq0.false)
-    (c.put_bytes-a1.ensures ⨾ (c.put_number-a2.ensures ⨾ (c.put-a3.ensures ⨾ c.put_number.ensures)))
+    (c.put_bytes-a1.ensures ⨾ ((rw c.from.ensures at c.put_number-a2.ensures) ⨾ (c.put-a3.ensures ⨾ c.put_number.ensures)))

@@ -1,32 +1,16 @@
-use Prim.Native.Nat.{◌-◌}
-use mathlib.Core.Path.{refl, ◌∙◌}
+use mathlib.Core.Path.{◌∙◌}
 use native.Mathlib.Omega.{arith}
 use borrow.Author.Rules.{rules}
 use Rattle.put.specs.Wrote.{held}
 use Rattle.rows.proofs.Laws.{numbers-end, numbers-next}
 use Rattle.rows.proofs.put_numbers.Goals as goal
 
-pub loop-i-preserved : goal.loop-i-preserved
-loop-i-preserved c = (
-  omega arith,
-  (
-    omega arith,
-    numbers-next c.args.numbers.now
-        c.loop-i.i (search rules)
-        c.loop-i-test.true
-        c.put_int-place.ensures ∙ c.loop-i.invariant.1.1,
-  ),
-)
+pub loop-z-preserved : goal.loop-z-preserved
+loop-z-preserved c = record {
+  length_kept = omega arith;
+  all = numbers-next c.args.numbers.now c.loop-z.z-index (search rules) (omega arith) c.put_int-place.ensures ∙ c.loop-z.invariant.all;
+}
 
 pub returns : goal.returns
 returns c =
-    record {
-      is = numbers-end c.args.numbers.now c.loop-i.i (held c.loop-i.place c.loop-i.out)
-          c.loop-i-test.false ∙ c.loop-i.invariant.1.1;
-    }
-
-pub loop-i-init : goal.loop-i-init
-loop-i-init c = (omega arith, (refl, refl))
-
-pub shape_of-out : goal.shape_of-out
-shape_of-out c = c.loop-i.invariant.1.0
+    record { is = numbers-end c.args.numbers.now c.loop-z.z-index (held c.loop-z.place c.loop-z.out) (omega arith) ∙ c.loop-z.invariant.all }

@@ -1,9 +1,12 @@
 -- The open run, or a new one.
-use Rattle.runs.proofs.Steps.{run-new, run-old}
+use Rattle.std.proofs.Common.{rules}
+use Rattle.runs.specs.Step.{run_for}
 use Rattle.runs.proofs.run_for.Goals as goal
 
-pub returns-then-was-number : goal.returns-then-was-number
-returns-then-was-number c = run-new c.args.was c.args.number c.args.last c.if-was-number.true
+pub returns-then-was-eq0 : goal.returns-then-was-eq0
+unfolding run_for
+returns-then-was-eq0 c = search rules
 
 pub returns : goal.returns
-returns c = run-old c.args.was c.args.number c.args.last c.if-was-number.false
+unfolding run_for
+returns c = search rules

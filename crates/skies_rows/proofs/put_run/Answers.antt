@@ -17,6 +17,6 @@ pub returns : goal.returns
 returns c =
     let full : length c.read-sky.result.table.entries ≡ 36 =
     search (rules, length-mapped) in
-    as-text (somebody c.args.number c.args.offset c.read-sky.result (group_of c.args.run.now) _ c.read-sky.ensures c.in-Of.is
+    as-text (somebody c.args.number c.args.offset c.read-sky.result (group_of c.args.run.now) _ c.read-sky.ensures c.in-Some.is
     (full))
     (c.put_bytes-a3.ensures ⨾ (c.put_place-a4.ensures ⨾ c.put_sky.ensures))

@@ -1,4 +1,3 @@
-use Prim.Native.Nat.{◌-◌}
 use mathlib.Core.Path.{refl}
 use Rattle.sky_numbers.specs.Numbers.{table_layout}
 use Rattle.sky_numbers.proofs.Taking.{taken_none, taken_next, taken-all}

@@ -1,14 +1,20 @@
 -- `follows` meets its contract: line 1 by its total, a later one by what line 1 said.
-use borrow.Author.Tests.{not-false, not-true}
-use Rattle.sky_read.proofs.StepLaws.{follows-first, follows-later}
+use Rattle.std.proofs.Common.{rules}
+use Rattle.sky.specs.Group.{follows, same_talker}
 use Rattle.sky_read.proofs.follows.Goals as goal
 
-pub returns-then-not-head : goal.returns-then-not-head
-returns-then-not-head c =
-    rw (c.lines_for.ensures, c.in_place-here.ensures)
-    (follows-first c.args.head c.args.k c.args.t c.args.v (not-true c.args.head.begun c.if-not-head.true))
+pub returns-then-v-lines_for : goal.returns-then-v-lines_for
+unfolding follows
+returns-then-v-lines_for c = search rules
 
-pub returns : goal.returns
-returns c =
-    rw (c.talker_no.ensures, c.talker_no-2.ensures, c.in_place-here.ensures)
-    (follows-later c.args.head c.args.k c.args.t c.args.v (not-false c.args.head.begun c.if-not-head.false))
+pub returns-else-v-lines_for : goal.returns-else-v-lines_for
+unfolding follows
+returns-else-v-lines_for c = search rules
+
+pub returns-then-first-v-2 : goal.returns-then-first-v-2
+unfolding follows same_talker
+returns-then-first-v-2 c = search rules
+
+pub returns-else-first-v-2 : goal.returns-else-first-v-2
+unfolding follows same_talker
+returns-else-first-v-2 c = search rules

@@ -2,7 +2,7 @@
 use mathlib.Core.Path.{ap}
 use lib.ListN.{replicate}
 use Rattle.kind_gsv.specs.declared.Entry.{Entry}
-use Rattle.sky.specs.declared.Whose.TheVariants.{Nobody}
+use Rattle.std.specs.Prelude.{None}
 use Rattle.sky_read.proofs.refuse.Goals as goal
 
 pub returns : goal.returns
@@ -11,6 +11,6 @@ returns c = ap (λ (e : Entry). record {
   line = c.args.line;
   field = c.args.field;
   talker =
-      Nobody;
+      None;
   table = record { count = 0; entries = replicate 36 e };
 }) c.entry-none.ensures

@@ -1,4 +1,3 @@
-use Prim.Native.Nat.{◌-◌}
 use mathlib.Core.Path.{◌≡◌}
 use native.Mathlib.Omega.{arith}
 use borrow.Author.Rules.{rules}
@@ -19,85 +18,36 @@ lines_for-lines-requires c =
     omega (arith, (clear-is c.args.r full c.requires.good).few)
 
 pub loop-k-init : goal.loop-k-init
-loop-k-init c =
-    put-none c.args.t c.args.r c.args.out.now c.lines_for-lines.result c.lines_for-lines.ensures
+loop-k-init c = put-none c.args.t c.args.r c.args.out.now c.lines_for-lines.result c.lines_for-lines.ensures
 
 pub line_of-line-requires : goal.line_of-line-requires
 line_of-line-requires c =
-    let full : length c.args.r.entries ≡ 36 = search (rules, length-mapped) in
-    let few = (clear-is c.args.r full
-    c.requires.good).few in (
+    let full : length c.args.r.entries ≡ 36 = search (rules, length-mapped) in (
       c.loop-k.invariant.some,
       (
-        nine c.args.t
-            c.args.r c.args.out.now
-            c.lines_for-lines.result c.lines_for-lines.ensures full
-            c.requires c.loop-k.invariant c.loop-k-test.true,
-        few,
+        nine c.args.t c.args.r c.args.out.now c.lines_for-lines.result c.lines_for-lines.ensures full c.requires c.loop-k.invariant
+            c.loop-k-test.true,
+        (clear-is c.args.r full c.requires.good).few,
       ),
     )
 
 pub overflow_add-at : goal.overflow_add-at
 overflow_add-at c =
-    let full : length c.args.r.entries ≡ 36 =
-    search (rules, length-mapped) in
-    let h = next_place c.args.t
-    c.args.r
-    c.args.out.now
-    c.lines_for-lines.result
-    c.lines_for-lines.ensures full
-    c.requires
-    c.loop-k.invariant
-    c.loop-k-test.true
-    c.line_of-line.ensures c.write-written.ensures in
+    let full : length c.args.r.entries ≡ 36 = search (rules, length-mapped) in
+    let h = next_place c.args.t c.args.r c.args.out.now c.lines_for-lines.result c.lines_for-lines.ensures full c.requires
+    c.loop-k.invariant c.loop-k-test.true c.line_of-line.ensures c.write-written.ensures in
     omega (arith, h)
-
-pub overflow_add-k : goal.overflow_add-k
-overflow_add-k c =
-    let full : length c.args.r.entries ≡ 36 =
-    search (rules, length-mapped) in
-    omega (
-      arith,
-      nine c.args.t
-          c.args.r
-          c.args.out.now
-          c.lines_for-lines.result
-          c.lines_for-lines.ensures full
-          c.requires
-          c.loop-k.invariant
-          c.loop-k-test.true,
-    )
 
 pub loop-k-preserved : goal.loop-k-preserved
 loop-k-preserved c =
-    let full : length c.args.r.entries ≡ 36 =
-    search (rules, length-mapped) in
-    put_next c.args.t
-    c.args.r
-    c.args.out.now
-    c.lines_for-lines.result
-    c.lines_for-lines.ensures full
-    c.requires
-    c.loop-k.invariant
-    c.loop-k-test.true
-    c.line_of-line.ensures c.write-written.ensures
-
-pub shape_of-out : goal.shape_of-out
-shape_of-out c = c.loop-k.invariant.long
-
-pub returns : goal.returns
-returns c =
     let full : length c.args.r.entries ≡ 36 = search (rules, length-mapped) in
-    put_all c.args.t c.args.r
-    c.args.out.now c.lines_for-lines.result
-    c.lines_for-lines.ensures full c.requires c.loop-k.invariant
-    c.loop-k-test.false
+    put_next c.args.t c.args.r c.args.out.now c.lines_for-lines.result c.lines_for-lines.ensures full c.requires c.loop-k.invariant
+    c.loop-k-test.true c.line_of-line.ensures c.write-written.ensures
 
-pub slice_bounds-write-count : goal.slice_bounds-write-count
-slice_bounds-write-count c = c.loop-k.invariant.place
-
-pub slice_bounds-write-start : goal.slice_bounds-write-start
-slice_bounds-write-start c = c.loop-k.invariant.place
-
-pub loop-k-smaller : goal.loop-k-smaller
-loop-k-smaller c = omega (arith, c.loop-k-test.true)
+-- Behind the last line, which is the first where there is but one.
+pub returns-2 : goal.returns-2
+returns-2 c =
+    let full : length c.args.r.entries ≡ 36 = search (rules, length-mapped) in
+    let last = put_next c.args.t c.args.r c.args.out.now c.lines_for-lines.result c.lines_for-lines.ensures full c.requires
+    c.loop-k.invariant c.loop-k-test.true c.line_of-line.ensures c.write-written.ensures in
+    put_all c.args.t c.args.r c.args.out.now c.lines_for-lines.result c.lines_for-lines.ensures full c.requires last (omega arith)

@@ -5,5 +5,5 @@ use Rattle.tally.proofs.begun_at.Goals as goal
 pub returns-then-b-c : goal.returns-then-b-c
 returns-then-b-c c = rw (eq-eqb _ _ c.if-b-c.true) c.one.ensures
 
-pub returns : goal.returns
-returns c = rw (ne_eqb _ _ c.if-b-c.false)
+pub returns-else-b-c : goal.returns-else-b-c
+returns-else-b-c c = rw (ne_eqb _ _ c.if-b-c.false)

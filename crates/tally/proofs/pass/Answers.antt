@@ -1,15 +1,12 @@
-use mathlib.Core.Path.{refl, sym, ◌∙◌}
-use native.Mathlib.Omega.{arith}
-use Rattle.tally.proofs.Laws.{pass-end, pass-next}
+use mathlib.Core.Path.{◌∙◌}
+use Rattle.std.proofs.Common.{rules, tests}
+use Rattle.std.proofs.lemmas.Iterator.{YieldsList-from_slice}
+use Rattle.std.proofs.lemmas.Iterator.Consumers.{fold_from_yields_List}
+use Rattle.tally.specs.Tally.{pass_one}
+use Rattle.tally.proofs.Laws.{pass-fold}
 use Rattle.tally.proofs.pass.Goals as goal
 
-pub loop-i-init : goal.loop-i-init
-loop-i-init c = (omega arith, refl)
-
-pub loop-i-preserved : goal.loop-i-preserved
-loop-i-preserved c =
-    let e = pass-next c.loop-i.t _ c.loop-i.i c.loop-i-test.true in
-    (omega arith, rw c.pass_one-t.ensures (sym e ∙ c.loop-i.invariant.1))
-
 pub returns : goal.returns
-returns c = sym (pass-end _ _ c.loop-i.i c.loop-i-test.false) ∙ c.loop-i.invariant.1
+returns c =
+    fold_from_yields_List _ pass_one _ _ c.fold.ensures.ran (YieldsList-from_slice c.args.s.now (cc)) (λ a x b q k. search (rules, tests))
+    ∙ pass-fold c.args.first c.args.s.now

@@ -8,10 +8,5 @@ use Rattle.text.proofs.put_int.Goals as goal
 pub returns : goal.returns
 returns c =
     c.put-a0.ensures
-    ⨾ ((rw (to_z-of_z {w = w64} {z = c.args.z} (search rules))
-    at c.put_minus-a1.ensures)
-    ⨾ (rw (
-      c.size.ensures,
-      to_z-of_z {w = w64} {z = c.args.z} (search rules),
-    )
-    at c.put_number.ensures))
+    ⨾ ((rw (to_z-of_z {w = w64} {z = c.args.z} (search rules)) at c.put_minus-a1.ensures)
+    ⨾ (rw (c.unsigned_abs.ensures.value, to_z-of_z {w = w64} {z = c.args.z} (search rules)) at c.put_number.ensures))

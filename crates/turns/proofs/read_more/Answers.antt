@@ -12,8 +12,8 @@ behind kept n front mid rest e h =
     ∙ (ap (λ (k : ℕ). take n (drop k (front ++ (mid ++ rest)))) (sym e)
     ∙ (ap (λ (s : List ℕ). take n s) (drop-append_seam front (mid ++ rest)) ∙ take-append-le n mid rest h))
 
-pub returns-in-Ok-clause-takes : goal.returns-in-Ok-clause-takes
-returns-in-Ok-clause-takes g c =
-    rw (behind c.args.kept c.in-Ok.n (take c.args.kept c.args.buf.now) c.read.new.buf _
-    (length-take-le c.args.kept c.args.buf.now (omega arith)) (omega (arith, c.in-Ok.ensures.bound)))
-    c.in-Ok.ensures.bytes.0
+pub returns-in_default-clause-takes : goal.returns-in_default-clause-takes
+returns-in_default-clause-takes g c =
+    rw (behind c.args.kept c.in_ok-n.n (take c.args.kept c.args.buf.now) c.read.new.buf _
+    (length-take-le c.args.kept c.args.buf.now (omega arith)) (omega (arith, c.in_ok-n.ensures.bound)))
+    c.in_ok-n.ensures.bytes.0

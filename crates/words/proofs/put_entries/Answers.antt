@@ -1,20 +1,23 @@
-use mathlib.Core.Path.{refl, ◌∙◌}
+use Prim.Native.Nat.{◌+◌, ◌*◌, ◌-◌, min}
+use mathlib.Core.Path.{◌≡◌, ◌∙◌}
 use native.Mathlib.Omega.{arith}
 use Rattle.put.specs.Wrote.{held}
-use Rattle.words.proofs.TableLaws.{entries_next, entries-end}
+use Rattle.words.proofs.TableLaws.{entries-end, entries_next}
 use Rattle.words.proofs.put_entries.Goals as goal
 
-pub loop-left-init : goal.loop-left-init
-loop-left-init c = (omega (arith, c.few-left.ensures), (refl, rw c.few-left.ensures))
-
-pub loop-left-preserved : goal.loop-left-preserved
-loop-left-preserved c =
-    let next = entries_next c.args.numbers.now c.loop-left.left c.loop-left.from c.loop-left-test.true c.put_table-a.ensures in
-    (omega arith, (omega arith, next ∙ c.loop-left.invariant.1.1))
+pub loop-i-preserved : goal.loop-i-preserved
+loop-i-preserved c =
+    let left = min 4 c.args.count - c.loop-i.i in let from = 5 + 7 * c.loop-i.i in
+    let fewer : min 4 c.args.count - (c.loop-i.i + 1) ≡ left - 1 = omega arith in
+    let further : 5 + 7 * (c.loop-i.i + 1) ≡ from + 7 = omega arith in
+    record {
+      length_kept = omega arith;
+      all = rw (fewer, further) (entries_next c.args.numbers.now left from (omega arith) c.put_table-a.ensures) ∙ c.loop-i.invariant.all;
+    }
 
 pub returns : goal.returns
 returns c =
-    record { is = entries-end c.args.numbers.now c.loop-left.left c.loop-left.from (held c.loop-left.a c.loop-left.out) c.loop-left-test.false ∙ c.loop-left.invariant.1.1 }
-
-pub shape_of-out : goal.shape_of-out
-shape_of-out c = c.loop-left.invariant.1.0
+    record {
+      is = entries-end c.args.numbers.now (min 4 c.args.count - c.loop-i.i) (5 + 7 * c.loop-i.i) (held c.loop-i.a c.loop-i.out) (omega arith)
+          ∙ c.loop-i.invariant.all;
+    }

@@ -3,10 +3,10 @@ use mathlib.Core.Path.{◌∙◌}
 use Rattle.form.specs.Values.{range_wrong}
 use Rattle.form.proofs.range.maybe.Goals as goal
 
-pub returns-then-there : goal.returns-then-there
+pub returns-then-m : goal.returns-then-m
 unfolding range_wrong
-returns-then-there c = c.within.ensures ∙ rw c.if-there.true
+returns-then-m g c = c.within.ensures ∙ rw (← c.sent-m.ensures, c.if-m.true)
 
-pub returns : goal.returns
+pub returns-else-m : goal.returns-else-m
 unfolding range_wrong
-returns c = c.within-2.ensures ∙ rw c.if-there.false
+returns-else-m g c = c.within-else-m.ensures ∙ rw (← c.sent-m.ensures, c.if-m.false)

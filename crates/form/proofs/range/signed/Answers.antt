@@ -8,4 +8,4 @@ use Rattle.form.proofs.range.signed.Goals as goal
 
 pub returns : goal.returns
 unfolding signed_wrong
-returns c = c.maybe.ensures ∙ rw (c.size.ensures, to_z-of_z {w = w32} {z = c.args.z} (search rules))
+returns c = c.maybe.ensures ∙ rw (c.size-value.ensures, to_z-of_z {w = w32} {z = c.args.z} (search rules))

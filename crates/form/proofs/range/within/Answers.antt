@@ -1,11 +1,13 @@
 -- The test is the definition's.
+use Rattle.std.proofs.Common.{arith}
+use Rattle.std.proofs.lemmas.Bool.Decides.{nat_tests}
 use Rattle.form.specs.Values.{outside}
 use Rattle.form.proofs.range.within.Goals as goal
 
-pub returns-then-lo-v : goal.returns-then-lo-v
+pub returns-then-v-hi : goal.returns-then-v-hi
 unfolding outside
-returns-then-lo-v c = rw c.if-lo-v.true
+returns-then-v-hi c = grind (arith, nat_tests)
 
 pub returns-else-lo-v : goal.returns-else-lo-v
 unfolding outside
-returns-else-lo-v c = rw c.if-lo-v.false
+returns-else-lo-v c = grind (arith, nat_tests)

@@ -1,12 +1,13 @@
 -- `empty` meets its contract: its test is the definition's.
-use borrow.Author.Tests.{eq-eqb, ne_eqb}
+use Rattle.std.proofs.Common.{arith}
+use Rattle.std.proofs.lemmas.Bool.Decides.{nat_tests}
 use Rattle.form.specs.Units.{empty_wrong}
 use Rattle.form.proofs.unit.empty.Goals as goal
 
-pub returns-then-f-eq0 : goal.returns-then-f-eq0
+pub returns-then-is_empty : goal.returns-then-is_empty
 unfolding empty_wrong
-returns-then-f-eq0 c = rw (eq-eqb _ _ c.if-f-eq0.true)
+returns-then-is_empty c = grind (arith, nat_tests)
 
-pub returns : goal.returns
+pub returns-else-is_empty : goal.returns-else-is_empty
 unfolding empty_wrong
-returns c = rw (ne_eqb _ _ c.if-f-eq0.false)
+returns-else-is_empty c = grind (arith, nat_tests)

@@ -1,16 +1,13 @@
--- `unit` meets its contract: the letter, then the value's mark, then emptiness, as in the definition.
-use mathlib.Core.Path.{◌∙◌}
-use Rattle.form.specs.Units.{empty_wrong, unit_wrong}
+-- `unit` meets its contract: the letter, or no value and an empty field.
+use Rattle.std.proofs.Common.{arith}
+use Rattle.std.proofs.lemmas.Bool.Decides.{nat_tests}
+use Rattle.form.specs.Units.{unit_wrong}
 use Rattle.form.proofs.unit.unit.Goals as goal
 
-pub returns-then-only : goal.returns-then-only
+pub returns-then-is_empty : goal.returns-then-is_empty
 unfolding unit_wrong
-returns-then-only c = rw (← c.only.ensures, c.if-only.true)
+returns-then-is_empty c = grind (arith, nat_tests)
 
-pub returns-then-there : goal.returns-then-there
+pub returns-else-is_empty : goal.returns-else-is_empty
 unfolding unit_wrong
-returns-then-there c = rw (← c.only.ensures, c.if-only.false, c.if-there.true)
-
-pub returns : goal.returns
-unfolding unit_wrong empty_wrong
-returns c = c.empty.ensures ∙ rw (← c.only.ensures, c.if-only.false, c.if-there.false)
+returns-else-is_empty c = grind (arith, nat_tests)

@@ -1,22 +1,32 @@
--- `days_in` meets its contract: the list is the calendar's of a common year, and a leap year differs in February alone.
-use mathlib.Core.Path.{sym}
-use borrow.Author.Tests.{le-leb, lt-leb}
+use Rattle.std.proofs.Common.{arith}
+use Rattle.std.proofs.lemmas.Bool.Decides.{nat_tests}
 use Rattle.form_date.specs.Calendar.{days_in}
-use Rattle.form_date.proofs.MonthLaws.{days-common, days-leap}
 use Rattle.form_date.proofs.dates.days_in.Goals as goal
 
-pub returns-then-month-lt1 : goal.returns-then-month-lt1
+pub returns-in-2 : goal.returns-in-2
 unfolding days_in
-returns-then-month-lt1 c = rw (lt-leb _ _ c.if-month-lt1.true)
+returns-in-2 c = grind (arith, nat_tests)
 
-pub returns-then-month-gt12 : goal.returns-then-month-gt12
+pub returns-in-2-2 : goal.returns-in-2-2
 unfolding days_in
-returns-then-month-gt12 c = rw (le-leb _ _ c.if-month-lt1.false, lt-leb _ _ c.if-month-gt12.true)
+returns-in-2-2 c = grind (arith, nat_tests)
 
-pub returns-then-month-is_leap : goal.returns-then-month-is_leap
-returns-then-month-is_leap c =
-    sym (days-leap _ _ c.if-month-lt1.false c.if-month-gt12.false (rw c.is_leap.ensures at c.if-month-is_leap.true))
+pub returns-in-4 : goal.returns-in-4
+unfolding days_in
+returns-in-4 c = grind (arith, nat_tests)
 
-pub returns : goal.returns
-returns c =
-    days-common _ _ c.if-month-lt1.false c.if-month-gt12.false (rw c.is_leap.ensures at c.if-month-is_leap.false)
+pub returns-in_default : goal.returns-in_default
+unfolding days_in
+returns-in_default c = grind (arith, nat_tests)
+
+pub returns-in_default-2 : goal.returns-in_default-2
+unfolding days_in
+returns-in_default-2 c = grind (arith, nat_tests)
+
+pub returns-in-1-to-12 : goal.returns-in-1-to-12
+unfolding days_in
+returns-in-1-to-12 c = grind (arith, nat_tests)
+
+pub returns-in-1-to-12-2 : goal.returns-in-1-to-12-2
+unfolding days_in
+returns-in-1-to-12-2 c = grind (arith, nat_tests)

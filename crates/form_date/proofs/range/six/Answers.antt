@@ -1,19 +1,12 @@
--- A date that is there is one of the calendar; a missing one is zero.
+use Rattle.std.proofs.Common.{arith}
+use Rattle.std.proofs.lemmas.Bool.Decides.{nat_tests}
 use Rattle.form_date.specs.Values.{six_wrong}
 use Rattle.form_date.proofs.range.six.Goals as goal
 
-pub returns-then-is_date : goal.returns-then-is_date
+pub returns-then-good : goal.returns-then-good
 unfolding six_wrong
-returns-then-is_date c = rw (c.if-d.true, ← c.is_date.ensures, c.if-is_date.true)
+returns-then-good c = grind (arith, nat_tests)
 
-pub returns-else-is_date : goal.returns-else-is_date
+pub returns-else-good : goal.returns-else-good
 unfolding six_wrong
-returns-else-is_date c = rw (c.if-d.true, ← c.is_date.ensures, c.if-is_date.false)
-
-pub returns-then-d-2 : goal.returns-then-d-2
-unfolding six_wrong
-returns-then-d-2 c = rw (c.if-d.false, c.if-d-2.true)
-
-pub returns-else-d-2 : goal.returns-else-d-2
-unfolding six_wrong
-returns-else-d-2 c = rw (c.if-d.false, c.if-d-2.false)
+returns-else-good c = grind (arith, nat_tests)

@@ -6,12 +6,12 @@ use Rattle.form_date.specs.Zone.{hours_text}
 use borrow.Author.Rules.{rules}
 use Rattle.form_date.proofs.text.hours.Goals as goal
 
-pub returns-then-there : goal.returns-then-there
-returns-then-there c = present c.args.there
-    c.if-there.true c.put-a.ensures
-    (rw (to_z-of_z {w = w32} {z = c.args.z}
+pub returns-then-z : goal.returns-then-z
+returns-then-z c = present c.args.z.there
+    c.if-z.true c.put-a.ensures
+    (rw (to_z-of_z {w = w32} {z = c.args.z.minutes}
     (search rules)) at c.put_hours.ensures)
 
 pub returns : goal.returns
 returns c =
-    absent (hours_text c.args.z) c.args.there c.if-there.false c.put-a.ensures
+    absent (hours_text c.args.z.minutes) c.args.z.there c.if-z.false c.put-a.ensures

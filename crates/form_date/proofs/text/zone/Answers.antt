@@ -6,9 +6,6 @@ use borrow.Author.Rules.{rules}
 use Rattle.form_date.proofs.text.zone.Goals as goal
 
 pub returns : goal.returns
-returns c = (rw (to_z-of_z {w = w32} {z = c.args.z.minutes} (search rules)) at c.hours-a.ensures)
-    then (rw (
-      c.minutes.ensures,
-      to_z-of_z {w = w32} {z = c.args.z.minutes}
-          (search rules),
-    ) at c.two.ensures)
+returns c =
+    c.hours-a.ensures
+    then (rw (c.minutes-value.ensures, to_z-of_z {w = w32} {z = c.args.z.minutes} (search rules)) at c.two.ensures)

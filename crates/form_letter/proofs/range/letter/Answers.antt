@@ -1,27 +1,27 @@
-use mathlib.Core.Path.{◌∙◌, refl, sym}
-use native.Mathlib.Omega.{arith}
-use Rattle.form_letter.proofs.Finding.{ended, found, letter-bad, letter-good, passed}
+-- `letter` meets its contract: std's `any` says whether the set of the definition holds the letter.
+use mathlib.Core.Path.{◌≡◌, ◌∙◌, sym}
+use mathlib.Core.Logic.{◌≢◌}
+use borrow.Author.Tests.{tests}
+use Rattle.std.proofs.Common.{rules}
+use Rattle.std.proofs.lemmas.Iterator.{YieldsList-from_slice, cases_from_any}
+use Rattle.form_letter.specs.Letters.{is_in, letter_wrong}
+use Rattle.form_letter.proofs.LetterLaws.{any-in}
 use Rattle.form_letter.proofs.range.letter.Goals as goal
 
-pub loop-i-init : goal.loop-i-init
-loop-i-init c = (omega arith, refl)
+pub returns-then-any : goal.returns-then-any
+unfolding letter_wrong
+returns-then-any c =
+    let known : c.any.result ≡ is_in c.args.v c.args.set.now =
+    any-in c.args.v c.args.set.now c.any.result
+    (cases_from_any _ _ c.any.result (λ x. x ≡ c.args.v) (λ x. x ≢ c.args.v) c.any.ensures.ran
+    (YieldsList-from_slice c.args.set.now cc) (λ x q k. search (rules, tests)) (λ x q k. search (rules, tests))) in
+    rw (sym known ∙ c.if-any.true)
 
-pub returns-then-wide-v : goal.returns-then-wide-v
-returns-then-wide-v c =
-    letter-good c.args.set.now c.args.v
-    (sym c.loop-i.invariant.1 ∙ found c.args.set.now c.loop-i.i c.args.v c.loop-i-test.true
-    (sym c.wide.ensures ∙ c.if-wide-v.true))
-
-pub loop-i-preserved : goal.loop-i-preserved
-loop-i-preserved c = (
-  omega arith,
-  passed c.args.set.now
-      c.loop-i.i c.args.v
-      c.loop-i-test.true (λ e. c.if-wide-v.false (c.wide.ensures ∙ e))
-      ∙ c.loop-i.invariant.1,
-)
-
-pub returns : goal.returns
-returns c =
-    letter-bad c.args.set.now c.args.v
-    (sym c.loop-i.invariant.1 ∙ ended c.args.set.now c.loop-i.i c.args.v c.loop-i-test.false)
+pub returns-else-any : goal.returns-else-any
+unfolding letter_wrong
+returns-else-any c =
+    let known : c.any.result ≡ is_in c.args.v c.args.set.now =
+    any-in c.args.v c.args.set.now c.any.result
+    (cases_from_any _ _ c.any.result (λ x. x ≡ c.args.v) (λ x. x ≢ c.args.v) c.any.ensures.ran
+    (YieldsList-from_slice c.args.set.now cc) (λ x q k. search (rules, tests)) (λ x q k. search (rules, tests))) in
+    rw (sym known ∙ c.if-any.false)

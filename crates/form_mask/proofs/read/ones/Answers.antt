@@ -1,15 +1,17 @@
+-- `ones` meets its contract: eight digits have room in 64 bits, and what is left without the first bit past them in 32.
+use native.Mathlib.Nat.{one-le-pow, pow-le-pow_right}
 use native.Mathlib.Omega.{arith}
-use Rattle.form_mask.proofs.MaskLaws.{hex-room, ones-all, ones_step}
+use lib.Dec.{lit<}
 use Rattle.form_mask.proofs.read.ones.Goals as goal
 
-pub overflow_mul-v : goal.overflow_mul-v
-overflow_mul-v c = omega (arith, hex-room {i = c.loop-i.i} (omega arith) {n = c.loop-i.v} (omega arith))
+pub pow-requires : goal.pow-requires
+pow-requires c = omega (arith, pow-le-pow_right {n = 16} (lit< tt) c.requires)
 
-pub overflow_add-v : goal.overflow_add-v
-overflow_add-v c = omega (arith, hex-room {i = c.loop-i.i} (omega arith) {n = c.loop-i.v} (omega arith))
+pub overflow_sub-result : goal.overflow_sub-result
+overflow_sub-result c = omega (arith, c.pow.ensures, one-le-pow c.args.width 16 (lit< tt))
 
-pub loop-i-preserved : goal.loop-i-preserved
-loop-i-preserved c = (omega arith, omega arith, ones_step _ _ c.loop-i.invariant.2)
+pub overflow_cast-result : goal.overflow_cast-result
+overflow_cast-result c = omega (arith, c.pow.ensures, pow-le-pow_right {n = 16} (lit< tt) c.requires)
 
 pub returns : goal.returns
-returns c = ones-all _ _ _ c.loop-i.invariant.0 c.loop-i-test.false c.loop-i.invariant.2
+returns c = rw c.pow.ensures

@@ -3,10 +3,10 @@ use Rattle.form.proofs.Texts.{absent, present}
 use Rattle.form_mask.specs.Masks.{print_hex}
 use Rattle.form_mask.proofs.text.eight.Goals as goal
 
-pub returns-then-there : goal.returns-then-there
-returns-then-there c =
-    present c.args.there c.if-there.true c.put-a.ensures c.put_eight.ensures
+pub returns-then-m : goal.returns-then-m
+returns-then-m g c =
+    rw (← c.sent-m.ensures) (present c.sent-m.result.there c.if-m.true c.put-a.ensures c.put_eight.ensures)
 
 pub returns : goal.returns
-returns c =
-    absent (print_hex 8 c.args.v) c.args.there c.if-there.false c.put-a.ensures
+returns g c =
+    rw (← c.sent-m.ensures) (absent (print_hex 8 c.sent-m.result.value) c.sent-m.result.there c.if-m.false c.put-a.ensures)

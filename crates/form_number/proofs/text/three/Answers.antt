@@ -3,10 +3,10 @@ use Rattle.form.proofs.Texts.{absent, present}
 use Rattle.digits.specs.Decimal.{print_fixed}
 use Rattle.form_number.proofs.text.three.Goals as goal
 
-pub returns-then-there : goal.returns-then-there
-returns-then-there c =
-    present c.args.there c.if-there.true c.put-a.ensures c.put_three.ensures
+pub returns-then-m : goal.returns-then-m
+returns-then-m g c =
+    rw (← c.sent-m.ensures) (present c.sent-m.result.there c.if-m.true c.put-a.ensures c.put_three.ensures)
 
 pub returns : goal.returns
-returns c =
-    absent (print_fixed 3 c.args.v) c.args.there c.if-there.false c.put-a.ensures
+returns g c =
+    rw (← c.sent-m.ensures) (absent (print_fixed 3 c.sent-m.result.value) c.sent-m.result.there c.if-m.false c.put-a.ensures)

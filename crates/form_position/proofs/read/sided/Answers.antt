@@ -1,17 +1,16 @@
--- `sided` meets its contract: its tests are the definition's.
-use mathlib.Core.Path.{◌∙◌}
-use borrow.Author.Tests.{eq-eqb, ne_eqb}
+use Rattle.std.proofs.Common.{arith}
+use Rattle.std.proofs.lemmas.Bool.Decides.{nat_tests}
 use Rattle.form_position.specs.Angle.{sided_of}
 use Rattle.form_position.proofs.read.sided.Goals as goal
 
-pub returns-then-f-ne0 : goal.returns-then-f-ne0
+pub returns-then-not-is_empty : goal.returns-then-not-is_empty
 unfolding sided_of
-returns-then-f-ne0 c = c.lettered.ensures ∙ rw (ne_eqb _ _ c.if-f-ne0.true)
+returns-then-not-is_empty c = grind (arith, nat_tests)
 
-pub returns-then-u-ne0 : goal.returns-then-u-ne0
+pub returns-then-is_empty : goal.returns-then-is_empty
 unfolding sided_of
-returns-then-u-ne0 c = rw (eq-eqb _ _ c.if-f-ne0.false, ne_eqb _ _ c.if-u-ne0.true)
+returns-then-is_empty c = grind (arith, nat_tests)
 
-pub returns : goal.returns
+pub returns-else-is_empty : goal.returns-else-is_empty
 unfolding sided_of
-returns c = rw (eq-eqb _ _ c.if-f-ne0.false, eq-eqb _ _ c.if-u-ne0.false)
+returns-else-is_empty c = grind (arith, nat_tests)

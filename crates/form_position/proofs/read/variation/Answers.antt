@@ -1,25 +1,20 @@
--- `variation` meets its contract: its tests are the definition's.
-use mathlib.Core.Path.{◌∙◌}
-use borrow.Author.Tests.{eq-eqb, ne_eqb}
-use Rattle.form_position.specs.Angle.{variation_form}
+use Rattle.std.proofs.Common.{arith}
+use Rattle.std.proofs.lemmas.Bool.Decides.{nat_tests}
 use Rattle.form_number.proofs.NumberLaws.{below-under}
+use Rattle.form_position.specs.Angle.{variation_form}
 use Rattle.form_position.proofs.read.variation.Goals as goal
 
 pub lettered-requires : goal.lettered-requires
 lettered-requires c = below-under _ _ _ c.less.ensures
 
-pub returns-then-f-ne0 : goal.returns-then-f-ne0
+pub returns-then-not-is_empty : goal.returns-then-not-is_empty
 unfolding variation_form
-returns-then-f-ne0 c = c.lettered.ensures ∙ rw (c.less.ensures, ne_eqb _ _ c.if-f-ne0.true)
+returns-then-not-is_empty c = grind (arith, nat_tests)
 
-pub returns-then-not-u-only : goal.returns-then-not-u-only
+pub returns-then-only-2 : goal.returns-then-only-2
 unfolding variation_form
-returns-then-not-u-only c =
-    rw (eq-eqb _ _ c.if-f-ne0.false, ← c.only.ensures, ← c.only-2.ensures)
-    (rw c.if-not-u-only.true)
+returns-then-only-2 c = grind (arith, nat_tests)
 
-pub returns : goal.returns
+pub returns-else-only-2 : goal.returns-else-only-2
 unfolding variation_form
-returns c =
-    rw (eq-eqb _ _ c.if-f-ne0.false, ← c.only.ensures, ← c.only-2.ensures)
-    (rw c.if-not-u-only.false)
+returns-else-only-2 c = grind (arith, nat_tests)

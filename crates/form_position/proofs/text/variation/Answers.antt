@@ -7,7 +7,7 @@ use Rattle.form_position.proofs.text.variation.Goals as goal
 
 pub returns : goal.returns
 returns c = (rw (
-  c.size.ensures,
+  c.size-value.ensures,
   to_z-of_z {w = w32} {z = c.args.n.value}
       (search rules),
 ) at c.number-a.ensures)

@@ -23,7 +23,7 @@ lay-requires c =
     few (group_of c.args.s.now) c.read-sky.result c.read-sky.ensures full
 
 pub returns-then-lay : goal.returns-then-lay
-returns-then-lay c = let said = somebody (group_of c.args.s.now) c.read-sky.result _ c.args.numbers.now _ c.read-sky.ensures c.in-Of.is c.lay.ensures.out_after
+returns-then-lay c = let said = somebody (group_of c.args.s.now) c.read-sky.result _ c.args.numbers.now _ c.read-sky.ensures c.in-Some.is c.lay.ensures.out_after
     (room (length c.args.numbers.now) 254 (sym c.lay.ensures.value ∙ c.if-lay.true)) in
     record {
       value = said.0;
@@ -33,7 +33,7 @@ returns-then-lay c = let said = somebody (group_of c.args.s.now) c.read-sky.resu
     }
 
 pub returns : goal.returns
-returns c = let said = somebody (group_of c.args.s.now) c.read-sky.result _ c.args.numbers.now _ c.read-sky.ensures c.in-Of.is c.lay.ensures.out_after
+returns c = let said = somebody (group_of c.args.s.now) c.read-sky.result _ c.args.numbers.now _ c.read-sky.ensures c.in-Some.is c.lay.ensures.out_after
     (no_room (length c.args.numbers.now) 254 (sym c.lay.ensures.value ∙ c.if-lay.false)) in
     record {
       value = said.0;

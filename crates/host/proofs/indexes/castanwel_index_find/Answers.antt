@@ -6,9 +6,9 @@ use Rattle.host.proofs.indexes.castanwel_index_find.Goals as goal
 pub returns : goal.returns
 returns c = record {
   value = ap (λ w. w.no) c.find-found.ensures;
-  offset_after = c.kept_wide.ensures ∙ ap
+  offset_after = c.kept.ensures ∙ ap
       (λ w. set_at w.no w.offset c.args.offset.now) c.find-found.ensures;
-  size_after = c.kept_wide-2.ensures ∙ ap (λ w. set_at w.no w.length c.args.size.now)
+  size_after = c.kept-2.ensures ∙ ap (λ w. set_at w.no w.length c.args.size.now)
       c.find-found.ensures;
   line_after = ap (λ w. w.line) c.find-found.ensures;
   field_after = ap (λ w. w.field) c.find-found.ensures;

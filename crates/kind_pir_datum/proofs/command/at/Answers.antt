@@ -4,4 +4,4 @@ use Rattle.kind_pir_datum.proofs.command.at.Goals as goal
 
 pub returns : goal.returns
 unfolding pirtr_layout pirtr_row
-returns c = rw (c.maybe.ensures, c.zone.ensures)
+returns c = rw (c.at.ensures, c.at-2.ensures)

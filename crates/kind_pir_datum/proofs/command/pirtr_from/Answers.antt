@@ -13,4 +13,4 @@ pub returns : goal.returns
 unfolding pirtr_row
 returns c =
     tells-right _ _ _ _ _ c.lay.ensures (rw (← c.needed_int-zone_wrong.ensures, ← c.near-w2.ensures, ← c.near-w1.ensures)
-    c.if-w1-ne0.false) (rw (c.kept.ensures, c.zoned_if.ensures))
+    c.if-w1-ne0.false) (rw (c.into.ensures, c.zoned_if.ensures))

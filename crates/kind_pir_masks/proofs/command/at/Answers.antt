@@ -4,4 +4,4 @@ use Rattle.kind_pir_masks.proofs.command.at.Goals as goal
 
 pub returns : goal.returns
 unfolding pirsr_layout pirsr_row
-returns c = rw (c.maybe.ensures, c.maybe-2.ensures)
+returns c = rw (c.at.ensures, c.at-2.ensures)

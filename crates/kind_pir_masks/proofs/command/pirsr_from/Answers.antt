@@ -13,4 +13,4 @@ pub returns : goal.returns
 unfolding pirsr_row
 returns c =
     tells-right _ _ _ _ _ c.lay.ensures (rw (← c.near-w3.ensures, ← c.near-w2.ensures, ← c.near-w1.ensures) c.if-w1-ne0.false)
-    (rw (c.kept.ensures, c.kept-2.ensures))
+    (rw (c.into.ensures, c.into-2.ensures))

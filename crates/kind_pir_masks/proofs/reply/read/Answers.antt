@@ -3,12 +3,13 @@ use Rattle.form.proofs.Told.{tells-count, tells-fields}
 use Rattle.kind_pir_masks.specs.Reply.{pirsa_row}
 use Rattle.kind_pir_masks.proofs.reply.read.Goals as goal
 
-pub returns-then-n-ne3 : goal.returns-then-n-ne3
+pub returns-then-f-ne3 : goal.returns-then-f-ne3
 unfolding pirsa_row
-returns-then-n-ne3 c = tells-count _ _ _ _ _ c.refuse.ensures c.if-n-ne3.true
+returns-then-f-ne3 c = tells-count _ _ _ _ _ c.refuse.ensures c.if-f-ne3.true
 
 pub returns : goal.returns
 unfolding pirsa_row
 returns c =
-    tells-fields _ _ _ _ _ _ c.pirsa_from.ensures c.if-n-ne3.false
-    (rw (c.empty_in-third.ensures, c.whole_in-glonass.ensures, c.whole_in-gps.ensures))
+    tells-fields _ _ _ _ _ _ c.pirsa_from.ensures c.if-f-ne3.false
+    (rw (c.empty-third.ensures, c.whole-glonass.ensures, c.whole-gps.ensures)
+    (rw (c.at.ensures.holds, c.at-2.ensures.holds, c.at-3.ensures.holds)))

@@ -5,4 +5,4 @@ use Rattle.kind_pir_port.proofs.command.at.Goals as goal
 pub returns : goal.returns
 unfolding pirpr_layout pirpr_row
 returns c =
-    rw (c.maybe.ensures, c.maybe-2.ensures, c.maybe-3.ensures, c.maybe-4.ensures)
+    rw (c.at.ensures, c.at-2.ensures, c.at-3.ensures, c.at-4.ensures)

@@ -25,4 +25,4 @@ returns c =
       ← c.near-w3.ensures,
       ← c.near-w2.ensures,
       ← c.near-w1.ensures,
-    ) c.if-w1-ne0.false) (rw (c.kept.ensures, c.kept-2.ensures, c.kept_if.ensures, c.kept_if-2.ensures))
+    ) c.if-w1-ne0.false) (rw (c.into.ensures, c.into-2.ensures, c.kept_if.ensures, c.kept_if-2.ensures))

@@ -1,12 +1,9 @@
 -- The sum so far and the entries to come are the whole; each entry is at most 13 bytes.
-use Prim.Native.Nat.{◌*◌, ◌+◌, ◌-◌, ◌≤◌}
+use Prim.Native.Nat.{◌*◌, ◌+◌, ◌≤◌}
 use mathlib.Core.Path.{◌≡◌}
-use lib.ListN.{drop, take}
+use lib.ListN.{drop}
 use Rattle.sky_write.specs.Size.{sizes, table_size}
 use Rattle.sky_write.proofs.sizes.room.Given as goal
 
-abbrev pub invariant-loop-i : goal.invariant-loop-i
-invariant-loop-i l = (l.i ≤ l.count) × ((l.size ≤ 162 + 13 * l.i) × (l.size + sizes (drop l.i (take l.count l.r.entries)) ≡ table_size l.r))
-
-abbrev pub decreases-loop-i : goal.decreases-loop-i
-decreases-loop-i l = l.count - l.i
+abbrev pub invariant-loop-e : goal.invariant-loop-e
+invariant-loop-e l = (l.size ≤ 162 + 13 * l.e-index) × (l.size + sizes (drop l.e-index l.used) ≡ table_size l.fn.r)

@@ -1,20 +1,21 @@
--- By the letter of the form.
-use borrow.Author.Tests.{eq-eqb, ne_eqb}
+use native.Mathlib.Omega.{arith}
+use borrow.Author.Tests.{ne_eqb}
 use Rattle.words.specs.Codes.{width_of}
 use Rattle.words.proofs.code.width.Goals as goal
 
-pub returns-then-f-eq120 : goal.returns-then-f-eq120
+pub returns-in-120 : goal.returns-in-120
 unfolding width_of
-returns-then-f-eq120 c = rw (eq-eqb _ _ c.if-f-eq120.true)
+returns-in-120 c = rw c.in-120.is
 
-pub returns-then-f-eq114 : goal.returns-then-f-eq114
+pub returns-in-114 : goal.returns-in-114
 unfolding width_of
-returns-then-f-eq114 c = rw (ne_eqb _ _ c.if-f-eq120.false, eq-eqb _ _ c.if-f-eq114.true)
+returns-in-114 c = rw c.in-114.is
 
-pub returns-then-f-eq103 : goal.returns-then-f-eq103
+pub returns-in-103 : goal.returns-in-103
 unfolding width_of
-returns-then-f-eq103 c = rw (ne_eqb _ _ c.if-f-eq120.false, ne_eqb _ _ c.if-f-eq114.false, eq-eqb _ _ c.if-f-eq103.true)
+returns-in-103 c = rw c.in-103.is
 
-pub returns : goal.returns
+pub returns-in_default : goal.returns-in_default
 unfolding width_of
-returns c = rw (ne_eqb _ _ c.if-f-eq120.false, ne_eqb _ _ c.if-f-eq114.false, ne_eqb _ _ c.if-f-eq103.false)
+returns-in_default c =
+    rw (ne_eqb c.args.f 120 (λ e. omega arith), ne_eqb c.args.f 114 (λ e. omega arith), ne_eqb c.args.f 103 (λ e. omega arith))

@@ -1,27 +1,22 @@
-use mathlib.Core.Path.{refl, ◌∙◌}
+use mathlib.Core.Path.{◌∙◌}
 use native.Mathlib.Omega.{arith}
 use lib.ListN.{drop}
 use Rattle.put.specs.Wrote.{held}
+use Rattle.words.specs.Table.{number}
 use Rattle.words.proofs.TableLaws.{fill-next, fill_end}
 use Rattle.words.proofs.table.put_table.Goals as goal
 
-pub loop-i-init : goal.loop-i-init
-loop-i-init c = (omega arith, (c.past-n.ensures.0, (refl, rw c.past-n.ensures.1)))
-
-pub loop-i-preserved : goal.loop-i-preserved
-loop-i-preserved c =
+pub loop-b-preserved : goal.loop-b-preserved
+loop-b-preserved c =
     let next =
-    fill-next c.args.table.now c.args.numbers.now c.loop-i.i c.loop-i.q c.loop-i.n c.loop-i-test.true c.state-q.result c.past-n-in-loop-i.result
-    c.taken.result c.put_step-a.ensures c.taken.ensures c.past-n-in-loop-i.ensures.1 c.state-q.ensures in
-    (omega arith, (c.past-n-in-loop-i.ensures.0, (omega arith, next ∙ c.loop-i.invariant.1.1.1)))
+    fill-next c.args.table.now c.args.numbers.now c.loop-b.b-index (number c.loop-b.q) c.loop-b.n (omega arith) (number c.state-q.result) c.past-n-in-loop-b.result
+    c.taken.result c.put_step-a.ensures c.taken.ensures c.past-n-in-loop-b.ensures.1 c.state-q.ensures in
+    record { within = c.past-n-in-loop-b.ensures.0; length_kept = omega arith; all = next ∙ c.loop-b.invariant.all }
 
 pub returns : goal.returns
 returns c =
     record {
       is =
-          fill_end c.args.table.now (drop c.loop-i.n c.args.numbers.now) c.loop-i.i c.loop-i.q (held c.loop-i.a c.loop-i.out) c.loop-i-test.false
-          ∙ c.loop-i.invariant.1.1.1;
+          fill_end c.args.table.now (drop c.loop-b.n c.args.numbers.now) c.loop-b.b-index (number c.loop-b.q) (held c.loop-b.a c.loop-b.out) (omega arith)
+          ∙ c.loop-b.invariant.all;
     }
-
-pub shape_of-out : goal.shape_of-out
-shape_of-out c = c.loop-i.invariant.1.1.0

@@ -1,12 +1,11 @@
--- By the state.
-use borrow.Author.Tests.{eq-eqb, ne_eqb}
+use Rattle.words.proofs.TableLaws.{no-form}
 use Rattle.words.specs.Table.{step_taken}
 use Rattle.words.proofs.table.taken.Goals as goal
 
-pub returns-then-q-eq1 : goal.returns-then-q-eq1
+pub returns-in-Form : goal.returns-in-Form
 unfolding step_taken
-returns-then-q-eq1 c = rw (eq-eqb _ _ c.if-q-eq1.true) c.taken.ensures
+returns-in-Form c = rw c.in-Form.is c.taken.ensures
 
-pub returns : goal.returns
+pub returns-in-Name : goal.returns-in-Name
 unfolding step_taken
-returns c = rw (ne_eqb _ _ c.if-q-eq1.false)
+returns-in-Name c = rw (no-form c.in-Name.is)

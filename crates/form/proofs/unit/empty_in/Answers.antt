@@ -1,6 +1,0 @@
--- `empty_in` meets its contract: the form of the field that the places give.
-use mathlib.Core.Path.{◌∙◌}
-use Rattle.form.proofs.unit.empty_in.Goals as goal
-
-pub returns : goal.returns
-returns c = c.empty.ensures ∙ rw c.field_in.ensures.holds

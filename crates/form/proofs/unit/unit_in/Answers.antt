@@ -1,6 +1,0 @@
--- `unit_in` meets its contract: the form of the field that the places give.
-use mathlib.Core.Path.{◌∙◌}
-use Rattle.form.proofs.unit.unit_in.Goals as goal
-
-pub returns : goal.returns
-returns c = c.unit.ensures ∙ rw c.field_in.ensures.holds

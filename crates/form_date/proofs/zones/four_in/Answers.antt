@@ -1,6 +1,0 @@
--- `four_in` meets its contract: the form of the field that the places give.
-use mathlib.Core.Path.{◌∙◌}
-use Rattle.form_date.proofs.zones.four_in.Goals as goal
-
-pub returns : goal.returns
-returns c = c.four.ensures ∙ rw c.field_in.ensures.holds

@@ -1,6 +1,0 @@
--- `code_in` meets its contract: the form of the field that the places give.
-use mathlib.Core.Path.{◌∙◌}
-use Rattle.form_mask.proofs.plain.code_in.Goals as goal
-
-pub returns : goal.returns
-returns c = c.code.ensures ∙ rw c.field_in.ensures.holds

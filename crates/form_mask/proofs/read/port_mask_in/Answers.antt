@@ -1,6 +1,0 @@
--- `port_mask_in` meets its contract: the form of the field that the places give.
-use mathlib.Core.Path.{◌∙◌}
-use Rattle.form_mask.proofs.read.port_mask_in.Goals as goal
-
-pub returns : goal.returns
-returns c = c.port_mask.ensures ∙ rw c.field_in.ensures.holds

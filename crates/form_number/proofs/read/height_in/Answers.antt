@@ -1,6 +1,0 @@
--- `height_in` meets its contract: the form of the field that the places give.
-use mathlib.Core.Path.{◌∙◌}
-use Rattle.form_number.proofs.read.height_in.Goals as goal
-
-pub returns : goal.returns
-returns c = c.height.ensures ∙ rw c.field_in.ensures.holds

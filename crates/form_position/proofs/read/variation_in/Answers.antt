@@ -1,6 +1,0 @@
--- `variation_in` meets its contract: the form of the field that the places give.
-use mathlib.Core.Path.{◌∙◌}
-use Rattle.form_position.proofs.read.variation_in.Goals as goal
-
-pub returns : goal.returns
-returns c = c.variation.ensures ∙ rw (c.field_in-2.ensures.holds, c.field_in.ensures.holds)

@@ -1,6 +1,0 @@
--- `time_in` meets its contract: the form of the field that the places give.
-use mathlib.Core.Path.{◌∙◌}
-use Rattle.form_time.proofs.read.time_in.Goals as goal
-
-pub returns : goal.returns
-returns c = c.time.ensures ∙ rw c.field_in.ensures.holds

@@ -1,0 +1,10 @@
+-- Field after field.
+use Rattle.put.proofs.Chain.{◌then◌}
+use Rattle.form.specs.Kind.{fields_for}
+use Rattle.kind_pir_port.specs.Command.{pirpr_row}
+use Rattle.kind_pir_port.proofs.command.PortAskedRecord.put_fields.Goals as goal
+
+pub returns : goal.returns
+unfolding fields_for pirpr_row
+returns c =
+    c.one-a0.ensures then c.plain-a1.ensures then c.one-a2.ensures then c.four.ensures

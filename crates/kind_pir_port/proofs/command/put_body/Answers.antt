@@ -1,6 +1,0 @@
--- The address, then the fields.
-use Rattle.frame.proofs.Sealing.{body-put}
-use Rattle.kind_pir_port.proofs.command.put_body.Goals as goal
-
-pub returns : goal.returns
-returns c = body-put c.put_bytes-a.ensures c.put_fields.ensures

@@ -1,8 +1,0 @@
--- Past the end there is no number.
-use mathlib.Core.Path.{sym}
-use lib.IntN.{pos}
-use lib.ListN.{get_or-eq_default}
-use Rattle.numbers.proofs.at.Goals as goal
-
-pub returns : goal.returns
-returns c = sym (get_or-eq_default c.args.numbers.now (pos 0) c.if-i-numbers.false)
