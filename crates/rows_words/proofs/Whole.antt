@@ -8,16 +8,16 @@ use native.Mathlib.Omega.{arith}
 use lib.Dec.{eqb, leb}
 use lib.IntN.{ℤ}
 use lib.ListN.{length}
-use borrow.Author.Tests.{eqb-true, le-leb}
+use borrow.Author.Tests.{le-leb}
 use Rattle.digits.specs.Pick.{pick}
 use Rattle.numbers.specs.declared.Told.{Told}
 use Rattle.numbers.specs.Told.{told}
 use Rattle.sentence.specs.Lines.{Refusal, refusal_of}
 use Rattle.sentence.specs.Numbers.{kind_of, numbers_of}
 use Rattle.sentence.specs.Sentence.{Sentence}
-use Rattle.sentence.specs.ToHost.{laid_for, told_for, told_of}
+use Rattle.sentence.specs.ToHost.{told_for, told_of}
 use Rattle.sentence_laws.proofs.LawfulLayouts.{most-numbers}
-use Rattle.rows.specs.Row.{row_text, told_row}
+use Rattle.rows.specs.Row.{row_text}
 use Rattle.rows.proofs.Whole.{row_is}
 use Rattle.rows_words.specs.Worded.{place_text, reason_row, told_worded, worded_text}
 

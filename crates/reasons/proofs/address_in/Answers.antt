@@ -7,6 +7,3 @@ use Rattle.reasons.proofs.address_in.Goals as goal
 pub slice_bounds-result-end : goal.slice_bounds-result-end
 slice_bounds-result-end c =
     sym (length-take-le _ _ (rw c.find-n.ensures (find-le 44 c.args.body.now)))
-
-pub returns : goal.returns
-returns c = rw c.find-n.ensures

@@ -2,13 +2,6 @@
 use Rattle.fields.proofs.FieldParts.{field-holds}
 use Rattle.reasons.proofs.field_of.Goals as goal
 
-pub slice_bounds-result-count : goal.slice_bounds-result-count
-slice_bounds-result-count c = rw c.field_at-f.ensures (field-holds c.args.line.now c.args.n).ordered
-
-pub slice_bounds-result-start : goal.slice_bounds-result-start
-slice_bounds-result-start c =
-    rw c.field_at-f.ensures (field-holds c.args.line.now c.args.n).ordered
-
 pub slice_bounds-result-end : goal.slice_bounds-result-end
 slice_bounds-result-end c = rw c.field_at-f.ensures (field-holds c.args.line.now c.args.n).inside
 

@@ -1,18 +1,10 @@
 -- By whether the numbers are asked for.
 use mathlib.Core.Bool.{Bool}
-use mathlib.Core.List.{List}
-use mathlib.Core.Path.{◌∙◌, ap, sym}
-use lib.IntN.{ℤ}
+use mathlib.Core.Path.{ap, sym}
 use Rattle.put.specs.Wrote.{held}
 use Rattle.put.proofs.Chain.{as-text, nothing_put}
-use Rattle.rows.specs.Row.{asked_text, numbers_text}
+use Rattle.rows.specs.Row.{asked_text}
 use Rattle.rows.proofs.put_asked.Goals as goal
-
-pub returns-then-asked : goal.returns-then-asked
-returns-then-asked c =
-    as-text (ap (λ (l : List ℤ). numbers_text l) c.shown_of.ensures
-    ∙ ap (λ (b : Bool). asked_text b c.args.kind c.args.numbers.now) (sym c.if-asked.true))
-    c.put_numbers.ensures
 
 pub returns : goal.returns
 returns c =

@@ -1,5 +1,5 @@
 use Prim.Native.Nat.{◌<◌, ◌≤◌, min, ℕ}
-use mathlib.Core.Path.{◌∙◌, ◌≡◌, ap, refl}
+use mathlib.Core.Path.{◌∙◌, ◌≡◌, ap}
 use native.Mathlib.Omega.{arith}
 use lib.ListN.{length, take}
 use lib.Seq.{length-take-le}
@@ -10,9 +10,6 @@ use Rattle.skies_rows.proofs.Laws.{rows_end, rows_next}
 use borrow.Author.Rules.{rules}
 use Rattle.skies_rows.proofs.put_satellites.Goals as goal
 
-pub loop-e-init : goal.loop-e-init
-loop-e-init c = (refl, refl)
-
 pub loop-e-preserved : goal.loop-e-preserved
 loop-e-preserved c =
     let full : length c.args.table.entries ≡ 36 = search (rules, length-mapped) in
@@ -22,9 +19,6 @@ loop-e-preserved c =
       omega arith,
       rows_next (take c.min.result c.args.table.entries) c.loop-e.e-index in-used c.put_satellite-place.ensures ∙ c.loop-e.invariant.1,
     )
-
-pub shape_of-out : goal.shape_of-out
-shape_of-out c = c.loop-e.invariant.0
 
 pub returns : goal.returns
 returns c =

@@ -1,10 +1,6 @@
-use mathlib.Core.Path.{refl}
 use Rattle.sky_numbers.specs.Numbers.{table_layout}
-use Rattle.sky_numbers.proofs.Taking.{taken_none, taken_next, taken-all}
+use Rattle.sky_numbers.proofs.Taking.{taken_next, taken-all}
 use Rattle.sky_numbers.proofs.table_at.Goals as goal
-
-pub loop-i-init : goal.loop-i-init
-loop-i-init c = taken_none c.args.numbers.now _ refl
 
 pub loop-i-preserved : goal.loop-i-preserved
 loop-i-preserved c =

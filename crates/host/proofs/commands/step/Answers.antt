@@ -1,7 +1,6 @@
 -- Numbers that say no settings are refused; else the settings that they say take the step, and those after it are laid where it is
 -- answered.
 use mathlib.Core.Path.{sym, ◌∙◌}
-use borrow.Author.Tests.{not-false}
 use Rattle.host.proofs.Stepping.{short, answered, refuses}
 use Rattle.host.proofs.commands.step.Goals as goal
 
