@@ -68,7 +68,7 @@ def test_wrong_programs():
 
 def code_of(crate, file):
     """The source files whose contracts cite a file of definitions: of its crate and those named after it; of any where these have none."""
-    cites = re.compile(r"^ghost use Rattle\.%s\.specs\.%s\b" % (crate, file), re.MULTILINE)
+    cites = re.compile(r"^ *ghost use Rattle\.%s\.specs\.%s\b" % (crate, file), re.MULTILINE)
     paths = [path for path in sorted((ROOT / "crates").glob("*/src/*.rt")) if cites.search(path.read_text())]
     near = [path for path in paths if (path.parts[-3] + "_").startswith(crate + "_")]
     return ["crates/" + "/".join(path.parts[-3:]) for path in near or paths]
