@@ -16,9 +16,9 @@ ELSEWHERE = {"Skies": ("read-group", "write-group", "table-fault", "table-rest")
 HELPERS = {"one", "read", "one-put", "one-fields", "one-writing"}
 # The functions without a contract about their outcome, which the claim cannot be made of: they read and write files, of which the kit's
 # contracts say nothing (docs/DECISIONS.md); `flush` and `read_more` have a contract, about what they do beside that. `fail` writes a row of
-# words, and `arg_count` asks the system how many words there are. `line` says where its bytes lie among those that were read.
+# words, and `arg_count` asks the system how many words there are.
 FILES = {"exhibits_" + name for name in ("adding", "checking", "renewing", "rows", "says", "showing", "storing", "walks")}
-STREAMS = {("turns", "flush"), ("turns", "read_more"), ("turns", "fail"), ("turns", "arg_count"), ("exhibits_walks", "line")}
+STREAMS = {("turns", "flush"), ("turns", "read_more"), ("turns", "fail"), ("turns", "arg_count")}
 # What a clause calls the answer.
 RESULT = "result"
 # Where names are defined that a relation or an entry has in another word.

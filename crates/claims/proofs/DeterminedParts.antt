@@ -1,8 +1,8 @@
 -- Parts of texts and of signed values, the group writer's order of tests and the step: any two results that a contract permits are equal.
-use Prim.Native.Nat.{◌%◌, ◌-◌, ◌/◌, ℕ}
+use Prim.Native.Nat.{◌%◌, ◌+◌, ◌-◌, ◌/◌, ℕ}
 use lib.Dec.{ltb}
 use lib.ListN.{length}
-use mathlib.Core.Path.{◌≡◌}
+use mathlib.Core.Path.{◌∙◌, ◌≡◌, sym}
 use mathlib.Core.Bool.{Bool}
 use mathlib.Core.List.{[], ◌∷◌, List}
 use lib.IntN.{nat_abs, ℤ}
@@ -13,6 +13,8 @@ use Rattle.form_number.specs.Number.{below_of}
 use Rattle.receiver.specs.Command.{Does, outcome_of}
 use Rattle.receiver.specs.declared.Done.{Done}
 use Rattle.receiver.specs.declared.Settings.{Settings}
+use Rattle.turns.specs.Turns.{part}
+use Rattle.exhibits_walks.specs.declared.lines.Lines.{Lines}
 use Rattle.claims.proofs.Commands.{one-command}
 use Rattle.claims.proofs.Determined.{One, one}
 
@@ -51,3 +53,8 @@ step s arrival line out = one-command s (outcome_of s arrival line) out
 -- turns
 pub is-full : (out : List ℕ) (place : ℕ) (room : ℕ) → One (ltb (length out - place) room)
 is-full out place room = one
+
+-- exhibits_walks
+pub lines-line : {R : Type 0} (l : Lines R) (a b : List ℕ) → (length a + l.start ≡ l.at) × (a ≡ part l.start l.at l.buf)
+    → (length b + l.start ≡ l.at) × (b ≡ part l.start l.at l.buf) → a ≡ b
+lines-line l a b p q = p.1 ∙ sym q.1

@@ -171,6 +171,7 @@ fn main(rt: HostRuntime) {
             err,
             command,
         ),
+        None if turns::arg_count(&rt) == 0 => say_unnamed(&mut err, FillError::NotPresent),
         _ => exhibits_says::usage(&mut err),
     }
 }

@@ -21,13 +21,19 @@ fn say_unfit<R, E: Write>(job: &mut Job<R, E>, last: Entry, e: Entry, line: u64)
             b", and exhibits have to ascend (5)\n",
         );
     }
-    let _ = writeln!(
-        job.err,
-        "line {line} cannot be stored: it has {} bytes from byte {} on; 7 to 82 bytes are stored, \
-         behind byte {} where the last exhibit ends, and within 4294967295 (5)",
-        e.length,
+    exhibits_says::counted(&mut job.err, b"line ", line, b" cannot be stored: it has ");
+    exhibits_says::counted(&mut job.err, b"", e.length, b" bytes from byte ");
+    exhibits_says::counted(
+        &mut job.err,
+        b"",
         e.offset,
-        last.offset.saturating_add(last.length)
+        b" on; 7 to 82 bytes are stored, behind byte ",
+    );
+    exhibits_says::counted(
+        &mut job.err,
+        b"",
+        last.offset.saturating_add(last.length),
+        b" where the last exhibit ends, and within 4294967295 (5)\n",
     );
 }
 
@@ -57,7 +63,8 @@ fn line_of<R: Files, E: Write>(job: &mut Job<R, E>, exhibit: u64, line: u64) -> 
         }),
         Ok(None) => {
             exhibits_says::begin(&mut job.err, job.log, b" has no line ");
-            let _ = writeln!(job.err, "{line}, its lines are {}", lines.count);
+            exhibits_says::counted(&mut job.err, b"", line, b", its lines are ");
+            exhibits_says::counted(&mut job.err, b"", lines.count, b"\n");
             None
         }
         Err(e) => {

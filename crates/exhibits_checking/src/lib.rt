@@ -38,11 +38,8 @@ impl Checked {
     // Says how many exhibits are no line of the log.
     fn say_wrong<R, E: Write>(self, job: &mut Job<R, E>) {
         let all = self.right.saturating_add(self.wrong);
-        let _ = write!(
-            job.err,
-            "exhibits: {} of the {all} exhibits of ",
-            self.wrong
-        );
+        exhibits_says::counted(&mut job.err, b"exhibits: ", self.wrong, b" of the ");
+        exhibits_says::counted(&mut job.err, b"", all, b" exhibits of ");
         exhibits_says::bytes(&mut job.err, job.index);
         exhibits_says::bytes(&mut job.err, b" are no line of ");
         exhibits_says::bytes(&mut job.err, job.log);
@@ -54,7 +51,9 @@ impl Checked {
         if 0 < self.wrong {
             return self.say_wrong(job);
         }
-        if let Err(e) = writeln!(to, "{} exhibits, each is a line of this log", self.right) {
+        let counted = write!(to, "{}", self.right);
+        let told = to.write_all(b" exhibits, each is a line of this log\n");
+        if let Err(e) = told.and(counted) {
             exhibits_says::no_output(&mut job.err, e);
         }
     }

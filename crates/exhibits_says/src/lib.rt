@@ -20,7 +20,8 @@ pub fn bytes<E: Write>(err: &mut E, s: &[u8]) {
     let _ = err.write_all(s);
 }
 
-// A number between two texts.
+// A number between two texts. Each piece is tried by itself: one that cannot be written keeps back none of those behind it, which a
+// `write!` of a whole row would.
 pub fn counted<E: Write>(err: &mut E, before: &[u8], n: u64, after: &[u8]) {
     bytes(err, before);
     let _ = write!(err, "{n}");

@@ -15,7 +15,7 @@ fn seek<R: Files, E: Write>(job: &mut Job<R, E>, exhibit: u64) -> Option<Entry> 
         Ok(scanned) => {
             if scanned.sought.is_none() {
                 exhibits_says::begin(&mut job.err, job.index, b" has no exhibit ");
-                let _ = writeln!(job.err, "{exhibit} (12)");
+                exhibits_says::counted(&mut job.err, b"", exhibit, b" (12)\n");
             }
             scanned.sought
         }
@@ -28,10 +28,14 @@ fn seek<R: Files, E: Write>(job: &mut Job<R, E>, exhibit: u64) -> Option<Entry> 
 
 // Says that the reader refuses an exhibit's line, and why.
 fn say_refused<E: Write>(err: &mut E, exhibit: u64, line: &[u8], no: u8, field: usize) {
-    let _ = write!(
+    exhibits_says::counted(
         err,
-        "exhibits: exhibit {exhibit} cannot be read: refused {no} at field {field}: "
+        b"exhibits: exhibit ",
+        exhibit,
+        b" cannot be read: refused ",
     );
+    exhibits_says::counted(err, b"", u64::from(no), b" at field ");
+    exhibits_says::counted(err, b"", field as u64, b": ");
     let mut row = [0u8; 400];
     let a = reasons::put_reason(&mut row, 0, line, no, field);
     let n = put::put(&mut row, a, b'\n');

@@ -52,11 +52,18 @@ impl<'a, L: Read, N: Write, E: Write> Store<'a, L, N, E> {
 
     fn say_unfit(&mut self, e: Entry) {
         exhibits_says::row(self.err, self.row);
-        let _ = writeln!(
+        exhibits_says::counted(
             self.err,
-            "exhibit {} cannot be stored: its line has {} bytes from byte {} on, \
-             and 7 to 82 bytes are stored that end within 4294967295 (5)",
-            e.number, e.length, e.offset
+            b"exhibit ",
+            e.number,
+            b" cannot be stored: its line has ",
+        );
+        exhibits_says::counted(self.err, b"", e.length, b" bytes from byte ");
+        exhibits_says::counted(
+            self.err,
+            b"",
+            e.offset,
+            b" on, and 7 to 82 bytes are stored that end within 4294967295 (5)\n",
         );
     }
 
@@ -92,10 +99,8 @@ impl<'a, L: Read, N: Write, E: Write> Store<'a, L, N, E> {
         let Some(e) = self.lines.find_line(line).map_err(Trouble::NoLog)? else {
             let lines = self.lines.count;
             exhibits_says::row(self.err, self.row);
-            let _ = writeln!(
-                self.err,
-                "the log has no line {line}, its lines are {lines}"
-            );
+            exhibits_says::counted(self.err, b"the log has no line ", line, b"");
+            exhibits_says::counted(self.err, b", its lines are ", lines, b"\n");
             return Err(Trouble::Refused);
         };
         self.put(Entry {

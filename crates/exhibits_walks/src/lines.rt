@@ -1,5 +1,6 @@
 // A log of any length, gone over in turns: its lines one after another, and the line at an offset.
 ghost use Rattle.std.specs.Prelude.{◌≡◌, ◌+◌, ◌≤◌, length};
+ghost use Rattle.turns.specs.Turns.{part};
 
 use finder::Found;
 use index::Entry;
@@ -38,7 +39,8 @@ impl<R: Read> Lines<R> {
 
     // The bytes of the line that was found last.
     pub fn line(&self) -> &[u8]
-        ensures { length result.now + self.now.start ≡ self.now.at }
+        ensures length { length result.now + self.now.start ≡ self.now.at }
+        ensures bytes { result.now ≡ part self.now.start self.now.at self.now.buf }
     {
         &self.buf[self.start..self.at]
     }

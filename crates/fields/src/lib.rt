@@ -16,9 +16,9 @@ pub fn places(s: &[u8], p: &mut [usize]) -> usize
     ensures { Placed s.now p.old result p.new }
 {
     let mut n: usize = 0;
-    for (i, &b) in s.iter().enumerate() {
+    for i in 0..s.len() {
         line::store(p, n, i);
-        n += (b == b',') as usize;
+        n += (s[i] == b',') as usize;
     }
     line::store(p, n, s.len());
     n + 1

@@ -78,7 +78,11 @@ fn put_talker(out: &mut [u8], t: Talker) -> usize
 pub fn xor_of(s: &[u8]) -> u8
     ensures { result ≡ xor_of s.now }
 {
-    s.iter().fold(0, |xor, b| xor ^ *b)
+    let mut xor = 0;
+    for i in 0..s.len() {
+        xor ^= s[i];
+    }
+    xor
 }
 
 // Puts `*`, the two digits of `x`, CR and LF.
@@ -92,6 +96,7 @@ fn put_end(out: &mut [u8], at: usize, x: u8) -> usize
 }
 
 // Puts the line of a body at the start of `out`.
+#[inline(always)]
 fn seal(out: &mut [u8], body: &[u8]) -> usize
     ensures { Puts (held 0 out.old) (as_line body.now) (held result out.new) }
 {
@@ -109,7 +114,9 @@ fn front(s: &[u8], n: usize) -> &[u8]
 }
 
 // Writes the line of a body into `out` and answers its length; or hands back the record's fault, or refuses
-// with 1 a line of over 82 bytes, then with 8 an output that is shorter than the line.
+// with 1 a line of over 82 bytes, then with 8 an output that is shorter than the line. Drawn into each writer, as are `seal` and `finish`:
+// there the body's bytes are known to lie apart from `out`.
+#[inline(always)]
 fn write(out: &mut [u8], body: &[u8], fault: Written) -> Written
     ensures { Writes fault body.now out.old result out.new }
 {
@@ -128,6 +135,7 @@ fn write(out: &mut [u8], body: &[u8], fault: Written) -> Written
 }
 
 // The same for a body that is the first `n` bytes of `scratch`.
+#[inline(always)]
 pub fn finish(out: &mut [u8], scratch: &[u8], n: usize, fault: Written) -> Written
     ensures { Writes fault (take n scratch.now) out.old result out.new }
 {

@@ -95,7 +95,8 @@ fn lay(out: &mut [i64], t: Talker, r: Gsv) -> Told
     numbers::bare(4)
 }
 
-// The satellite of a GSV, or of a sky, whose number is in place `i`.
+// The satellite of a GSV, or of a sky, whose number is in place `i`. Drawn into its callers, which go over many of one length.
+#[inline(always)]
 pub fn entry_at(n: &[i64], i: u16) -> Entry
     ensures { result ≡ entry_layout.at n.now i }
 {

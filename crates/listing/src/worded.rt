@@ -39,16 +39,29 @@ pub fn list_line(
     rows_words::put_told(out, place, beside.bytes, row, number, line, told)
 }
 
+// Writes a piece of the row that counts. Each is tried by itself: one that cannot be written keeps back none of those behind it, which
+// a `write!` of the whole row would.
+fn say<E: Write>(err: &mut E, s: &[u8]) {
+    let _ = err.write_all(s);
+}
+
+fn say_number<E: Write>(err: &mut E, n: u64, after: &[u8]) {
+    let _ = write!(err, "{n}");
+    say(err, after);
+}
+
 // Says what the log held: `14 lines found, 10 read, 1 refused with 1, ..; 23 bytes passed over, lines cut short 1, lines of over 82
 // bytes 0`.
 pub fn say_counts<E: Write>(err: &mut E, rows: u64, counts: &[u64; 6], beside: Tally) {
-    let _ = write!(err, "{rows} lines found, {} read", counts[0]);
+    say_number(err, rows, b" lines found, ");
+    say_number(err, counts[0], b" read");
     for (no, n) in counts.iter().enumerate().skip(1) {
-        let _ = write!(err, ", {n} refused with {no}");
+        say(err, b", ");
+        say_number(err, *n, b" refused with ");
+        say_number(err, no as u64, b"");
     }
-    let _ = writeln!(
-        err,
-        "; {} bytes passed over, lines cut short {}, lines of over 82 bytes {}",
-        beside.passed, beside.short, beside.long
-    );
+    say(err, b"; ");
+    say_number(err, beside.passed, b" bytes passed over, lines cut short ");
+    say_number(err, beside.short, b", lines of over 82 bytes ");
+    say_number(err, beside.long, b"\n");
 }

@@ -36,7 +36,8 @@ pub fn are_said(numbers: &[i64]) -> bool
     11 <= numbers.len() && numbers::is_whole_at(numbers, 8)
 }
 
-// The settings that numbers say; one past their end is taken as 0.
+// The settings that numbers say; one past their end is taken as 0. Drawn into its callers, which know how many numbers there are.
+#[inline(always)]
 pub fn at(numbers: &[i64]) -> Settings
     ensures { result ≡ settings_at numbers.now }
 {

@@ -1,14 +1,16 @@
-use mathlib.Core.Path.{◌∙◌}
-use lib.Bits.{bit_xor}
-use Rattle.std.proofs.Common.{rules, tests}
-use Rattle.std.proofs.lemmas.Iterator.{YieldsList-from_slice}
-use Rattle.std.proofs.lemmas.Iterator.Consumers.{fold_from_yields_List}
+use mathlib.Core.Path.{◌∙◌, refl, sym}
 use Rattle.line.specs.Line.{xor_of}
-use Rattle.line.proofs.Laws.{xor-fold}
+use Rattle.line.proofs.Laws.{xor-end, xor-next}
 use Rattle.frame.proofs.xor_of.Goals as goal
 
-pub returns : goal.returns
+pub loop-i-init : goal.loop-i-init
 unfolding xor_of
+loop-i-init c = refl
+
+pub loop-i-preserved : goal.loop-i-preserved
+loop-i-preserved c =
+    sym (xor-next c.args.s.now c.loop-i.i c.loop-i-test.true c.loop-i.xor) ∙ c.loop-i.invariant
+
+pub returns : goal.returns
 returns c =
-    fold_from_yields_List _ bit_xor _ _ c.fold.ensures.ran (YieldsList-from_slice c.args.s.now (cc)) (λ a x b q k. search (rules, tests))
-    ∙ xor-fold 0 c.args.s.now
+    sym (xor-end c.args.s.now c.loop-i.i c.loop-i-test.false c.loop-i.xor) ∙ c.loop-i.invariant
