@@ -1,14 +1,15 @@
 -- The satellites of a GSA as a list: the first that is out of its range, and their fields.
-use Prim.Native.Nat.{suc, zero, ◌+◌, ◌<◌, ℕ}
+use Prim.Native.Nat.{suc, zero, ◌+◌, ◌<◌, ◌≤◌, ℕ}
 use mathlib.Core.Bool.{Bool, cond, false, true}
 use mathlib.Core.List.{[], ◌∷◌, List}
 use mathlib.Core.Path.{◌∙◌, ◌≡◌, ap, refl, subst, sym}
 use native.Mathlib.Omega.{arith}
 use lib.Dec.{leb}
 use native.Mathlib.Numerals.{add-one}
-use lib.ListN.{get_or, length, take}
+use lib.ListN.{drop, get_or, length, length-drop, take}
+use lib.Seq.{take_all}
 use Rattle.std.proofs.Math.Seq.{take-suc}
-use Rattle.std.proofs.lemmas.List.{map-append}
+use Rattle.std.proofs.lemmas.List.{map-append, take-append-drop}
 use Rattle.std.specs.List.{AllWithin, HoldsAt}
 use Rattle.std.specs.Prelude.{◌&&◌, map}
 use Rattle.put.specs.Wrote.{Held, PutsFields}
@@ -68,7 +69,19 @@ module _ (s : List Maybe) (full : length s ≡ 12) (rest : ℕ) where
   pub first-wrong : (i : ℕ) → (i < length s) × HoldsAt IsWrong s i × AllWithin IsRight s 0 i → i + 3 ≡ twelve_row.fault (twelve_in s) 2 rest
   first-wrong i h = chain-some 2 s rest i h.0 (h.1 no_maybe) (λ k l. h.2 k no_maybe (omega arith) l) ∙ as_list
 
--- The fields of satellites, one more, and twelve.
+-- As many as there are behind the first n are all of those.
+pub all-behind : (s : List Maybe) (n m : ℕ) → length s ≤ n + m → take m (drop n s) ≡ drop n s
+all-behind s n m long = take_all m (drop n s) (simp length-drop (omega (arith, long)))
+
+-- The fields of satellites, of the first n and then of those behind them; one more; and twelve.
+pub two-parts : (s : List Maybe) (n : ℕ) (last : List Maybe) {h g k : Held} → PutsFields h (map satellite_text (take n s)) g
+    → PutsFields g (map satellite_text last) k → last ≡ drop n s → PutsFields h (map satellite_text s) k
+two-parts s n last {h} {g} {k} p q behind =
+    let rest = subst (λ (l : List Maybe). PutsFields g (map satellite_text l) k) behind q in
+    subst (λ (fs : List (List ℕ)). PutsFields h fs k)
+    (sym (map-append satellite_text (take n s) (drop n s)) ∙ ap (map satellite_text) (take-append-drop n s))
+    (p then rest)
+
 pub one-field-more : (s : List Maybe) (i : ℕ) {h g k : Held} → i < length s → PutsFields h (map satellite_text (take i s)) g
     → PutsFields g (satellite_text (get_or s i no_maybe) ∷ []) k → PutsFields h (map satellite_text (take (i + 1) s)) k
 one-field-more s i {h} {k = k} l p q =

@@ -257,7 +257,8 @@ fn wrong(r: Gsa) -> usize
     form::keep::near(0, form_letter::range::letter(r.selection, b"MA"), w2)
 }
 
-// Puts the fields of satellites.
+// Puts the fields of satellites. Drawn in at both calls, where how many there are is known.
+#[inline(always)]
 fn put_satellites(out: &mut [u8], at: usize, s: &[Maybe]) -> usize
     ensures { PutsFields (held at out.old) (map satellite_text s.now) (held result out.new) }
 {
@@ -280,10 +281,11 @@ impl Record for Gsa {
     fn put_fields(self, out: &mut [u8], at: usize) -> usize {
         let a0 = form_letter::text::letter(out, at, self.selection);
         let a1 = form_number::text::one(out, a0, self.fix);
-        let a2 = put_satellites(out, a1, &self.satellites);
-        let a3 = form_number::text::number(out, a2, self.pdop);
-        let a4 = form_number::text::number(out, a3, self.hdop);
-        form_number::text::number(out, a4, self.vdop)
+        let a2 = put_satellites(out, a1, &self.satellites[..6]);
+        let a3 = put_satellites(out, a2, &self.satellites[6..]);
+        let a4 = form_number::text::number(out, a3, self.pdop);
+        let a5 = form_number::text::number(out, a4, self.hdop);
+        form_number::text::number(out, a5, self.vdop)
     }
 }
 

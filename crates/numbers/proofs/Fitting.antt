@@ -1,13 +1,11 @@
 -- A number of 64 bits is looked at by its sign: the tests of the code are those of the definitions, and what 32 bits hold of it is itself
 -- where they can.
-use Prim.Native.Nat.{◌<◌, ℕ}
+use Prim.Native.Nat.{min, ℕ}
 use mathlib.Core.Path.{◌≡◌, refl, sym}
 use mathlib.Core.Bool.{◌&&◌, Bool, cond, false, true, true≢false}
 use native.Mathlib.Omega.{arith}
-use borrow.Author.Tests.{le-leb, le-ltb, leb-false, leb-true, lt-leb, ltb-false, ltb-true, ne_eqb}
-use Rattle.std.proofs.Common.{Err, Ok, Result}
-use Rattle.std.specs.Int.{FitsUnsignedBits, int_max, int_min}
-use Rattle.std.specs.Result.{OkIff, result_unwrap_or}
+use borrow.Author.Tests.{le-leb, le-ltb, leb-false, leb-true, ltb-false, ltb-true, ne_eqb}
+use Rattle.std.specs.Int.{int_max, int_min}
 use Rattle.digits.specs.Pick.{pick}
 use lib.Dec.{eqb, leb, ltb, T}
 use lib.IntN.{nat_abs, negsuc, pos, ℤ}
@@ -46,17 +44,15 @@ pub signed-fits : (z : ℤ) → lt_z z low ≡ false → lt_z high z ≡ false �
 signed-fits (pos n) a b = record { sfits = omega (arith, ltb-false 2147483647 n b) }
 signed-fits (negsuc n) a b = record { sfits = omega (arith, ltb-false 2147483647 n a) }
 
--- What the code makes of a number: tried as one of 32 bits without sign, or moved to the nearest end.
-pub whole-tried : {E : Type 0} (z : ℤ) (r : Result ℕ E) → OkIff r (FitsUnsignedBits 32 z) (nat_abs z) → result_unwrap_or r most ≡ whole_of z
+-- What the code makes of a number: the less of its bits without sign and the most of 32, or moved to the nearest end.
+pub whole-held : (z : ℤ) → SFits w64 z → min (of_z w64 z) most ≡ whole_of z
 unfolding whole_of is_whole
-whole-tried (pos n) (Ok x) h = rw (le-leb n most (omega (arith, h.0))) h.1
-whole-tried (negsuc n) (Ok x) h = absurd h.0
-whole-tried (pos n) (Err e) h = rw (lt-leb n most (go (leb n most) refl))
+whole-held (pos n) f = go (leb n most) refl
   where
-    go : (t : Bool) → leb n most ≡ t → most < n
-    go true e = let k = leb-true n most e in absurd (h (omega arith))
-    go false e = leb-false n most e
-whole-tried (negsuc n) (Err e) h = refl
+    go : (t : Bool) → leb n most ≡ t → min n most ≡ pick t n most
+    go true e = omega (arith, leb-true n most e)
+    go false e = omega (arith, leb-false n most e)
+whole-held (negsuc n) f = omega (arith, f.sfits)
 
 pub clamped : (z : ℤ) → int_max low (int_min z high) ≡ signed_of z
 unfolding signed_of

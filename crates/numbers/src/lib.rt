@@ -84,11 +84,12 @@ fn is_whole(n: i64) -> bool
     0 <= n && n <= 4294967295
 }
 
-// The value without sign that is held of a number: itself, or 4294967295 where it does not fit.
+// The value without sign that is held of a number: itself, or 4294967295 where it does not fit. A negative one is larger than that without
+// its sign.
 fn whole(n: i64) -> u32
     ensures { result ≡ whole_of n }
 {
-    u32::try_from(n).unwrap_or(u32::MAX)
+    n.cast_unsigned().min(u64::from(u32::MAX)) as u32
 }
 
 // The value with a sign that is held of a number: itself, or the nearest end of 32 bits.
