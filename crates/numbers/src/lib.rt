@@ -84,8 +84,8 @@ fn is_whole(n: i64) -> bool
     0 <= n && n <= 4294967295
 }
 
-// The value without sign that is held of a number: itself, or 4294967295 where it does not fit. A negative one is larger than that without
-// its sign.
+// The value without sign that is held of a number: itself, or 4294967295 where it does not fit. The bits of a negative number, taken as
+// a number without sign, are larger.
 fn whole(n: i64) -> u32
     ensures { result ≡ whole_of n }
 {

@@ -154,7 +154,7 @@ pub fn address_at(kind: u32, talker: u32) -> Address
 
 // Writes the line of the record of a kind that `numbers` say into `out`. Refused, and then `out` is left: 5 for
 // too few numbers and 3 for what is no kind or no talker, both on line 0; 5 on line 1 in field 1 for a GPS mask
-// that 32 bits do not hold; or as the kind's writer does. Drawn into its one caller, and the kinds' writers with it.
+// that 32 bits do not hold; or as the kind's writer does. Drawn into its one caller.
 #[inline(always)]
 pub fn write(kind: u32, numbers: &[i64], out: &mut [u8]) -> Written
     ensures value { result ≡ written_as kind numbers.now out.old }

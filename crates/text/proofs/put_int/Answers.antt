@@ -18,4 +18,4 @@ returns c =
     let plain = to_z-of_z {w = w64} {z = c.args.z} (search rules) in
     c.put-a0.ensures
     ⨾ ((rw plain at c.put_minus-a1.ensures)
-    ⨾ of-size c.put_number.ensures (rw (c.unsigned_abs.ensures.value, plain) (omega arith)))
+    ⨾ of-size c.put_number.ensures (rw (c.unsigned_abs.ensures.value, plain) (grind arith)))
